@@ -61,6 +61,9 @@ alike-narrowed {old} {new} keeps {c} {d} p q {files} live call later held meanin
 }
 
 module _ (s : Sets) (c d : List ℕ) (others : Others) (e after : Expansion) where
+  long : (o : Enclosing) (below : List Enclosing) → length (below ++ o ∷ []) ≡ suc (length below)
+  long o below = omega (arith, length-append below (o ∷ []))
+
   -- an argument is entered
   pub alike-enter : (call : Call) (w : Wanted) → after.refusals ≡ e.refusals → HasEntered e after call w → IsAlikeCall s c d call → IsAlikeExpansion s c d others e → IsAlikeExpansion s c d others after
   alike-enter call w refusals entered call_alike alike =
@@ -80,9 +83,6 @@ module _ (s : Sets) (c d : List ℕ) (others : Others) (e after : Expansion) whe
               (subst (λ m. IsAlikeEnclosing s c d (others_at others m) o) (sym last.0) (record { frame = alike.top; call = call_alike }))
         ];
       }
-    where
-      long : (o : Enclosing) (below : List Enclosing) → length (below ++ o ∷ []) ≡ suc (length below)
-      long o below = omega (arith, length-append below (o ∷ []))
 
   -- an argument is left, and its call waits again
   pub alike-leave : (below : List Enclosing) (o : Enclosing) → e.below.items ≡ below ++ o ∷ [] → after.below.items ≡ below → after.refusals ≡ e.refusals
@@ -105,6 +105,3 @@ module _ (s : Sets) (c d : List ℕ) (others : Others) (e after : Expansion) whe
         });
         below = subst (λ l. (n : ℕ) (k : Enclosing) → slice_get l n ≡ Some k → IsAlikeEnclosing s c d (others_at others n) k) (sym are) (enclosing-others {others = others} e below o were alike);
       }
-    where
-      long : (o : Enclosing) (below : List Enclosing) → length (below ++ o ∷ []) ≡ suc (length below)
-      long o below = omega (arith, length-append below (o ∷ []))

@@ -1,7 +1,7 @@
 -- Configurations that have the same keep it while the store of conditions grows.
-use Rattle.std.proofs.Common.{◌≡◌, ◌≤◌, ◌++◌, ◌∷◌, ◌-◌, ℕ, zero, suc, Bool, List, [], All, Some, drop, get_or, length, slice_get, take, inl, inr, refl, sym, ap, subst, arith, ◌∙◌}
+use Rattle.std.proofs.Common.{◌≡◌, ◌≤◌, ◌++◌, ◌∷◌, ◌-◌, ℕ, zero, suc, Bool, List, [], All, Some, drop, get_or, length, slice_get, take, inl, inr, refl, sym, ap, subst, arith, ◌∙◌, map, true, false, if◌then◌else◌}
 use Rattle.std.proofs.lemmas.Bool.{cases_lt}
-use Rattle.std.proofs.lemmas.List.{take-take, take_all}
+use Rattle.std.proofs.lemmas.List.{take-take, take_all, get_or-map, length-map}
 use Rattle.std.proofs.lemmas.List.Elements.{All-cons, All-drop, All-head, All-nil, All-push, All-tail, All-take}
 use Rattle.std.proofs.lemmas.Option.{get_or_from_slice_get, slice_get_within}
 use Rattle.sc_base.specs.declared.fault.Fault.{Fault}
@@ -26,6 +26,18 @@ All-both P Q R both xs p q = λ k d below. both (get_or xs k d) (p k d below) (q
 -- what holds of all holds of the one that stands there
 pub All-at : {A : Type 0} (P : A → Type 0) (xs : List A) (i : ℕ) (x : A) → slice_get xs i ≡ Some x → All P xs → P x
 All-at P xs i x is all = subst P (get_or_from_slice_get xs i x x is) (all i x (slice_get_within xs i x is))
+
+pub none-told : {A : Type 0} (b : Bool) → ◌≡◌ {A = List A} [] (if b then [] else [])
+none-told true = refl
+none-told false = refl
+
+pub lacks-first : {A : Type 0} (b : Bool) (x : A) (xs : List A) → (if b then x ∷ xs else xs) ≡ [] → b ≡ false
+lacks-first true x xs is = absurd (cc)
+lacks-first false x xs is = refl
+
+-- what holds of all that the items are mapped to
+pub all-back : {A B : Type 0} (P : B → Type 0) (f : A → B) (xs : List A) → All P (map f xs) → All (λ x. P (f x)) xs
+all-back P f xs all = λ k d h. subst P (get_or-map f xs k d (f d) h) (all k (f d) (omega (arith, length-map xs f, h)))
 
 -- ---- a condition that is made of others
 

@@ -1,10 +1,8 @@
 -- Configurations that are alike stay so through the turns of an expansion, where what one of them
 -- looks up is defined alike for both.
-use Rattle.std.proofs.Common.{◌≡◌, ℕ, ◌<◌, Bool, true, List, [], ◌∷◌, Some, drop, length, map, slice_get, inl, inr, sym, ap, subst, ◌∙◌, if◌then◌else◌}
+use Rattle.std.proofs.Common.{◌≡◌, ℕ, Bool, true, List, [], ◌∷◌, Some, drop, length, map, slice_get, inl, inr, sym, ap, subst, ◌∙◌, if◌then◌else◌}
 use Rattle.std.proofs.lemmas.List.Elements.{All-nil}
-use Rattle.std.proofs.lemmas.Option.{slice_get_within}
 use Rattle.c11_macros.specs.Expansion.{IsWithin}
-use Rattle.c11_macros.specs.Hidden as model
 use Rattle.c11_macros.specs.Hidden.{Provenance}
 use Rattle.c11_macros.specs.Macros.{Macros}
 use Rattle.sc_base.specs.declared.id.Cond.{Cond}
@@ -16,7 +14,7 @@ use Rattle.sc_expand.proofs.PlainAgreement.{AgreesFrom, agrees-move, agrees-name
 use Rattle.sc_expand.proofs.PlainTurns.{under}
 use Rattle.sc_expand.proofs.Rests.{first-is}
 use Rattle.sc_expand.proofs.RunLemmas.{IsRunning, rests-at, running-stands, start-state, turned-at}
-use Rattle.sc_expand.specs.Alike.{CallNextAlike, DefineAlike, DefineNextAlike, IsAlikeExpansion, IsAlikeFrame, IsFirstIn, IsSameCall, Others, no_others}
+use Rattle.sc_expand.specs.Alike.{CallNextAlike, DefineAlike, DefineNextAlike, IsAlikeExpansion, IsAlikeFrame, IsSameCall, no_others}
 use Rattle.sc_expand.specs.declared.expansion.Expansion.{Expansion}
 use Rattle.sc_expand.specs.declared.frame.Enclosing.{Enclosing}
 use Rattle.sc_expand.specs.Machine.{IsHeldExpansion, Progress, Stands, state_in}
@@ -30,6 +28,8 @@ use Rattle.sc_model.proofs.SetLemmas.{IsConfig-Keeps}
 use Rattle.sc_model.specs.Sets.{IsConfig, Sets}
 use Rattle.sc_subst.specs.declared.hidden.Hidden.{Hidden}
 use Rattle.sc_subst.specs.Seen.{seen_hidden}
+use Rattle.sc_expand.proofs.WaitingTaking.{first-of-all}
+use Rattle.c11_macros.proofs.CallEnds.{cons-some}
 
 -- a configuration that has the first token has it before the others
 pub seen-first : (st : Stores) (c : List ℕ) (work : List (Cond × Hidden)) (item : Cond × Hidden) → slice_get work 0 ≡ Some item → st.sets.has item.0.0 c ≡ true
@@ -46,11 +46,6 @@ whole-top {s} {c} {d} e alike = all-of s c d e.top.work (subst (λ o. IsAlikeFra
 -- the first tokens are called alike, or neither is
 whole-call : {s : Sets} {names : List (List ℕ)} {c d : List ℕ} (e : Expansion) → IsAlikeExpansion s c d no_others e → IsSameCall s names c d e.top.work
 whole-call e alike = same-call e.top.work (whole-top e alike)
-
-first-of-all : (e : Expansion) → IsFirstIn no_others e
-first-of-all e = record {
-  is = λ item first empty. subst (λ (o : Others). o.behind < length e.top.work) (sym (others-none (length e.below.items))) (slice_get_within e.top.work 0 item first);
-}
 
 -- ---- what is looked up next
 
@@ -73,12 +68,9 @@ module _ (provenance : Provenance Place) (macros other : Macros) where
               let below = map (pending_at st c) e.below.items in
               let state : state_in st e.below.items (view_at st e.top c) c ≡ under below (scanning out (t ∷ rest)) = state-top st c (view_at st e.top c) top.0 ∙ ap (under below) (λ i. state_by out (work i) (calls i)) in
               agrees-name provenance macros other names within out rest t (agrees-under provenance macros other names within below (scanning out (t ∷ rest)) (subst Agrees state (agrees live))) looks
-          | inr below ↦ absurd (nothing t rest (sym work ∙ ap (λ v. v.work) below.1))
+          | inr below ↦ absurd (cons-some t rest (sym work ∙ ap (λ v. v.work) below.1))
         ];
   }
-    where
-      nothing : (t : model.Hidden Place) (rest : List (model.Hidden Place)) → t ∷ rest ≡ [] → ⊥
-      nothing t rest none = cc
 
   -- whatever a turn does
   agrees-progress : (old new : Stores) (c : List ℕ) (below later : List Enclosing) {a b : At} {takes : Bool} → Progress provenance macros old new c below later a b takes

@@ -1,5 +1,5 @@
 -- Tokens that wait, where nothing follows them.
-use Rattle.std.proofs.Common.{◌≡◌, ℕ, zero, suc, ◌+◌, ◌&&◌, ◌||◌, not, Bool, true, false, List, [], ◌∷◌, ◌++◌, All, Some, map, take, slice_get, refl, sym, ap, ◌∙◌, subst, arith, append-nil, IsTrue, if◌then◌else◌}
+use Rattle.std.proofs.Common.{◌≡◌, ℕ, zero, suc, ◌+◌, ◌&&◌, ◌||◌, not, Bool, true, false, List, [], ◌∷◌, ◌++◌, All, Some, map, take, slice_get, refl, sym, ap, ◌∙◌, subst, arith, append-nil, if◌then◌else◌}
 use Rattle.std.proofs.lemmas.List.{map-append}
 use Rattle.std.proofs.lemmas.List.Elements.{All-cons, All-head, All-nil, All-push, All-tail}
 use Rattle.c11_macros.specs.Hidden.{Failure}
@@ -37,12 +37,6 @@ several-push [] false x = refl
 several-push (y ∷ []) true x = refl
 several-push (y ∷ []) false x = refl
 several-push (y ∷ (z ∷ ys)) b x = refl
-
-pub take-first : {A : Type 0} (xs : List A) (b : Bool) (x : A) → take 1 (xs ++ (if b then x ∷ [] else [])) ≡ take 1 xs ++ (if b && not (is_any xs) then x ∷ [] else [])
-take-first [] true x = refl
-take-first [] false x = refl
-take-first (y ∷ ys) true x = refl
-take-first (y ∷ ys) false x = refl
 
 module _ {T : Type 0} where
   -- the item of an index is the next of those that were met
@@ -158,40 +152,3 @@ module _ {first old now : Sets} (was : Keeps first old) (keeps : Keeps old now) 
       let item_same : first.has item.0.0 c ≡ first.has item.0.0 d = at-index (λ (x : Cond × Hidden). IsAlike first c d x.0) list i item at all in
       let items = items-alike first c d i list all in
       here c p ∙ ((λ k. item_same k && (same k && not (is_any (items k)))) ∙ sym (here d q))
-
--- ---- what a test says
-
-pub is-true : (b : Bool) → b ≡ true → IsTrue b
-is-true true is = refl
-is-true false is = absurd (cc)
-
-pub true-is : (b : Bool) → IsTrue b → b ≡ true
-true-is true is = refl
-true-is false is = absurd (cc)
-
-pub none-told : {A : Type 0} (b : Bool) → ◌≡◌ {A = List A} [] (if b then [] else [])
-none-told true = refl
-none-told false = refl
-
--- ---- all items of a list
-
-pub items-whole : {T : Type 0} (s : Sets) (c d : List ℕ) (xs : List (Cond × T)) → AreAlike s c d xs → items_at s xs c ≡ items_at s xs d
-items-whole s c d [] all = refl
-items-whole {T} s c d (x ∷ xs) all =
-    let P : Cond × T → Type 0 = λ x. IsAlike s c d x.0 in
-    let first : s.has x.0.0 c ≡ s.has x.0.0 d = All-head P x xs all in
-    let rest = items-whole s c d xs (All-tail P x xs all) in
-    λ i. if first i then x.1 ∷ rest i else rest i
-
-pub items-same : (s : Sets) (xs : List (Cond × Hidden)) (c : List ℕ) → items_at s (map bared xs) c ≡ map (λ (h : Hidden). h.token) (items_at s xs c)
-items-same s [] c = refl
-items-same s (x ∷ xs) c = by (s.has x.0.0 c) (items-same s xs c)
-  where
-    by : (b : Bool) → items_at s (map bared xs) c ≡ map (λ (h : Hidden). h.token) (items_at s xs c)
-        → (if b then x.1.token ∷ items_at s (map bared xs) c else items_at s (map bared xs) c) ≡ map (λ (h : Hidden). h.token) (if b then x.1 ∷ items_at s xs c else items_at s xs c)
-    by true same = ap (λ l. x.1.token ∷ l) same
-    by false same = same
-
-pub given-bared : (P : Cond × Token → Type 0) (xs : List (Cond × Hidden)) → All (λ (x : Cond × Hidden). P (bared x)) xs → All P (map bared xs)
-given-bared P [] all = All-nil P
-given-bared P (x ∷ xs) all = All-cons P (bared x) (map bared xs) (All-head (λ (x : Cond × Hidden). P (bared x)) x xs all) (given-bared P xs (All-tail (λ (x : Cond × Hidden). P (bared x)) x xs all))

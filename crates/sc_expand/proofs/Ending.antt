@@ -1,11 +1,13 @@
 -- How an expansion begins and ends: tokens get an empty hide set, and lose their hide sets.
-use Rattle.std.proofs.Common.{◌≡◌, ℕ, ◌+◌, List, [], ◌∷◌, ◌++◌, All, map, take, Some, slice_get, sym, ap, subst, ◌∙◌}
+use Rattle.std.proofs.Common.{◌≡◌, ℕ, ◌+◌, Bool, true, false, List, [], ◌∷◌, ◌++◌, All, map, take, Some, slice_get, refl, sym, ap, subst, ◌∙◌, if◌then◌else◌}
 use Rattle.std.proofs.lemmas.List.{append_assoc, map-append, take_more}
 use Rattle.std.proofs.lemmas.List.Elements.{All-push}
 use Rattle.std.proofs.lemmas.Option.{get_or_from_slice_get, slice_get_within}
 use Rattle.sc_base.specs.declared.id.Cond.{Cond}
 use Rattle.sc_base.specs.declared.token.Token.{Token}
 use Rattle.sc_subst.specs.declared.hidden.Hidden.{Hidden}
+use Rattle.sc_guarded.specs.Items.{items_at}
+use Rattle.sc_model.specs.Sets.{Sets}
 
 -- without its hide set
 abbrev pub bared : Cond × Hidden → Cond × Token
@@ -30,3 +32,12 @@ finished-next list later out i cond h before at pushed =
 pub more-next : {A : Type 0} (front list later more : List A) (i : ℕ) (x : A) → list ≡ front ++ take i more → slice_get more i ≡ Some x → later ≡ list ++ x ∷ [] → later ≡ front ++ take (i + 1) more
 more-next front list later more i x before at pushed =
     pushed ∙ (ap (λ l. l ++ x ∷ []) before ∙ (append_assoc front (take i more) (x ∷ []) ∙ ap (λ l. front ++ l) (sym (take-next more i x at))))
+
+pub items-bared : (s : Sets) (xs : List (Cond × Hidden)) (c : List ℕ) → items_at s (map bared xs) c ≡ map (λ (h : Hidden). h.token) (items_at s xs c)
+items-bared s [] c = refl
+items-bared s (x ∷ xs) c = by (s.has x.0.0 c) (items-bared s xs c)
+  where
+    by : (b : Bool) → items_at s (map bared xs) c ≡ map (λ (h : Hidden). h.token) (items_at s xs c)
+        → (if b then x.1.token ∷ items_at s (map bared xs) c else items_at s (map bared xs) c) ≡ map (λ (h : Hidden). h.token) (if b then x.1 ∷ items_at s xs c else items_at s xs c)
+    by true same = ap (λ l. x.1.token ∷ l) same
+    by false same = same

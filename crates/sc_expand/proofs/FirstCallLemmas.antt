@@ -137,7 +137,7 @@ IsClosedCall-known {names} {list} {cond} {close} known s c had = subst (λ l. Is
               ∙ ap (indexes_from 0) all)));
         }
 
-and_known : (b x y : Bool) → (b ≡ true → x ≡ y) → (b && x) ≡ (b && y)
+pub and_known : (b x y : Bool) → (b ≡ true → x ≡ y) → (b && x) ≡ (b && y)
 and_known true x y is = is refl
 and_known false x y is = refl
 

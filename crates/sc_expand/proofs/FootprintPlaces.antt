@@ -163,7 +163,7 @@ module _ (s : Sets) (names files : List (List ℕ)) (hides : List (List Name)) w
   unhidden-moved h none = sym (ap (moved (seen_place files)) (seen_hidden-begun names hides h none))
 
   -- what stops the expansion of a list stops that of the text
-  text-stops : (macros : List ℕ → Macros) (cond : ℕ) (work : List (Cond × declared_hidden.Hidden)) (list : List (Cond × Token)) (limit : ℕ) (stop : Stop) → map bared work ≡ list
+  pub text-stops : (macros : List ℕ → Macros) (cond : ℕ) (work : List (Cond × declared_hidden.Hidden)) (list : List (Cond × Token)) (limit : ℕ) (stop : Stop) → map bared work ≡ list
       → All (λ (item : Cond × declared_hidden.Hidden). set_at hides item.1.hide.0 ≡ []) work → StopsAtName (seen_hidden names hides) (provenance_of files) macros s cond work limit stop
       → StopsAtName (λ t. unhidden (seen names files t)) place_alone macros s cond list limit stop
   text-stops macros cond work list limit (BranchesFull count) tokens none stops = (
@@ -175,10 +175,3 @@ module _ (s : Sets) (names files : List (List ℕ)) (hides : List (List Name)) w
   )
   text-stops macros cond work list limit ReadFault tokens none stops = stops
   text-stops macros cond work list limit OutOfMemory tokens none stops = tt
-
-  -- said of the configurations that it was given
-  pub given-stops : (macros : List ℕ → Macros) (first live : Cond) (work : List (Cond × declared_hidden.Hidden)) (list : List (Cond × Token)) (limit : ℕ) (stop : Stop) → first ≡ live → map bared work ≡ list
-      → All (λ (item : Cond × declared_hidden.Hidden). set_at hides item.1.hide.0 ≡ []) work → StopsAtName (seen_hidden names hides) (provenance_of files) macros s first.0 work limit stop
-      → StopsAtName (λ t. unhidden (seen names files t)) place_alone macros s live.0 list limit stop
-  given-stops macros first live work list limit stop same tokens none stops =
-      subst (λ (k : Cond). StopsAtName (λ t. unhidden (seen names files t)) place_alone macros s k.0 list limit stop) same (text-stops macros first.0 work list limit stop tokens none stops)

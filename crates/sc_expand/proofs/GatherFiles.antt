@@ -10,6 +10,7 @@ use Rattle.sc_expand.specs.Seen.{IsHeldToken, Stores}
 use Rattle.sc_subst.specs.declared.hidden.Hidden.{Hidden}
 use Rattle.sc_subst.specs.Parts.{seen_arguments, seen_list}
 use Rattle.sc_subst.specs.Seen.{IsHeldHidden, seen_hidden}
+use Rattle.sc_expand.proofs.AlikeLemmas.{all-back}
 
 module _ {P : Type 0} (F : model.Hidden P → Type 0) where
   abbrev Each : List (List (model.Hidden P)) → Type 0
@@ -61,10 +62,6 @@ module _ {P : Type 0} (F : model.Hidden P → Type 0) where
       by : (b : Bool) → (if b then Some made else None) ≡ Some fit → Each fit
       by true e = let same : made ≡ fit = cc in subst Each same (each-filled parameters variadic (given parameters variadic lists) (each-given parameters variadic lists all))
       by false e = absurd (cc)
-
-all-back : {A B : Type 0} (P : B → Type 0) (f : A → B) (xs : List A) → All P (map f xs) → All (λ x. P (f x)) xs
-all-back P f [] all = All-nil (λ x. P (f x))
-all-back P f (x ∷ xs) all = All-cons (λ x. P (f x)) x xs (All-head P (f x) (map f xs) all) (all-back P f xs (All-tail P (f x) (map f xs) all))
 
 all-to : {A B : Type 0} (P : B → Type 0) (f : A → B) (xs : List A) → All (λ x. P (f x)) xs → All P (map f xs)
 all-to P f [] all = All-nil P

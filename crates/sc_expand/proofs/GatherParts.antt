@@ -44,6 +44,7 @@ use Rattle.sc_subst.specs.Seen.{IsHeldHidden, seen_hidden}
 use Rattle.sc_model.proofs.SetLemmas.{IsConfig-Keeps, IsConfig-kept, Keeps-trans}
 use Rattle.sc_model.specs.Growth.{Extends}
 use Rattle.sc_model.specs.Sets.{Denotes, IsConfig, Keeps, Sets}
+use Rattle.sc_expand.proofs.FirstCallLemmas.{and_known}
 
 -- the configurations were parted, and those of a call that is not closed were refused
 pub record Parted (s0 s1 s2 s3 : Sets) (names later : List (List ℕ)) (files : ℕ) (e : Expansion) (r : Refusals) (cond closes opens bares alones uncalled : ℕ) (branches : List Branch) (failure : Failure Place) : Type 0 where
@@ -63,10 +64,7 @@ pub record Parted (s0 s1 s2 s3 : Sets) (names later : List (List ℕ)) (files : 
       → call_places s1 names (tokens_in e.top.work) 0 c ≡ call_places s1 names (tokens_in e.top.work) 0 d → Agree s2 branches c d
 
 part-same : (end one two : CallEnd) (has had : Bool) → has ≡ had → (has ≡ true → one ≡ two) → (has && is_end end one) ≡ (had && is_end end two)
-part-same end one two true true is same = ap (is_end end) (same refl)
-part-same end one two true false is same = absurd (cc)
-part-same end one two false true is same = absurd (cc)
-part-same end one two false false is same = refl
+part-same end one two has had is same = ap (λ b. b && is_end end one) is ∙ and_known had (is_end end one) (is_end end two) (λ here. ap (is_end end) (same (is ∙ here)))
 
 module _ {s0 s1 s2 s3 : Sets} {names later : List (List ℕ)} {files : ℕ} {e : Expansion} {r : Refusals} {cond closes opens bares alones uncalled : ℕ} {branches : List Branch} {failure : Failure Place}
     (parts : Parted s0 s1 s2 s3 names later files e r cond closes opens bares alones uncalled branches failure) where

@@ -1,6 +1,6 @@
 -- The tokens of a call at the places of a branch.
 use Rattle.std.proofs.Common.{◌≡◌, ℕ, zero, suc, ◌+◌, ◌-◌, ◌<◌, ◌≤◌, Bool, true, false, List, [], ◌∷◌, ◌++◌, All, map, take, drop, length, get_or, refl, sym, ap, subst, ◌∙◌, arith, ◌⊎◌, inl, inr, Some, slice_get, if◌then◌else◌}
-use Rattle.std.proofs.lemmas.List.{get_or-take, length-append, length-drop, length-map}
+use Rattle.std.proofs.lemmas.List.{get_or-take, length-append, length-drop, length-map, get_or_default}
 use Rattle.std.proofs.lemmas.List.Elements.{All-cons, All-head, All-nil, All-tail, All-take}
 use Rattle.std.proofs.lemmas.Bool.{cases_lt}
 use Rattle.std.proofs.lemmas.Option.{get_or_from_slice_get, slice_get_within}
@@ -88,11 +88,6 @@ middle f (y ∷ z ∷ zs) h o b x d e =
     }
 
 -- ---- places
-
-pub any-other : {A : Type 0} (xs : List A) (k : ℕ) (d e : A) → k < length xs → get_or xs k d ≡ get_or xs k e
-any-other [] k d e h = absurd (omega (arith, h))
-any-other (x ∷ xs) zero d e h = refl
-any-other (x ∷ xs) (suc k) d e h = any-other xs k d e (omega (arith, h))
 
 places_below : (s : Sets) (n : ℕ) (conds : List Cond) (c : List ℕ) (k d : ℕ) → k < length (places_from s n conds c) → get_or (places_from s n conds c) k d < n + length conds
 places_below s n [] c k d h = absurd (omega (arith, h))
@@ -246,7 +241,7 @@ call-taken st list after places c between item end count is counted at tokens fo
     let one : map see between ≡ is.between = ap (map see) (tokens item ∙ ap (λ k. map (token_at list item) (take (k - 1 - 2) (drop 2 places))) counted)
     ∙ (map-map see (token_at list item) (take (n - 1 - 2) (drop 2 places)) ∙ mid.between) in
     let two : see item.1 ≡ is.close = ap (λ (x : Cond × Hidden). see x.1) (sym (get_or_from_slice_get list end item item found)) ∙ (ap f last ∙ mid.last) in
-    let three : after ≡ is.after = follows ∙ (ap (λ k. seen_at st (drop (k + 1) list) c) (last ∙ any-other places (n - 1) end 0 low) ∙ is.behind) in
+    let three : after ≡ is.after = follows ∙ (ap (λ k. seen_at st (drop (k + 1) list) c) (last ∙ get_or_default places (n - 1) end 0 low) ∙ is.behind) in
     let P : List (model.Hidden Place) → model.Hidden Place → List (model.Hidden Place) → Type 0 = λ b x a. IsCall (seen_at st (drop 1 list) c) b x a in
     subst (λ b. P b (see item.1) after) (sym one) (subst (λ x. P is.between x after) (sym two) (subst (λ a. P is.between is.close a) (sym three) is.call))
 

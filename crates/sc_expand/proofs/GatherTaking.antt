@@ -11,7 +11,7 @@ use Rattle.sc_base.proofs.Growth.{Extends-refl, Extends-trans}
 use Rattle.sc_base.specs.declared.id.Cond.{Cond}
 use Rattle.sc_base.specs.declared.id.Name.{Name}
 use Rattle.sc_base.specs.declared.place.Place.{Place}
-use Rattle.sc_expand.proofs.AlikeLemmas.{IsAlike-Keeps}
+use Rattle.sc_expand.proofs.AlikeLemmas.{IsAlike-Keeps, lacks-first}
 use Rattle.sc_expand.proofs.GatherCases.{case-closed}
 use Rattle.sc_expand.proofs.LastLemmas.{last-later}
 use Rattle.sc_expand.proofs.SeenLemmas.{IsHeldExpansion-Grows, at-Grows}
@@ -90,10 +90,6 @@ head-held P (x ∷ xs) h held is = let same : x.1 ≡ h = cc in subst P same (Al
 one-has : {A : Type 0} (b : Bool) (x y : A) → (if b then x ∷ [] else []) ≡ y ∷ [] → b ≡ true
 one-has true x y is = refl
 one-has false x y is = absurd (cc)
-
-none-has : {A : Type 0} (b : Bool) (x : A) → (if b then x ∷ [] else []) ≡ [] → b ≡ false
-none-has true x is = absurd (cc)
-none-has false x is = refl
 
 pub record IsFunction (f : Form) : Type 0 where
   pub parameters : List (List ℕ)
@@ -201,7 +197,7 @@ module _ {s0 s1 : Sets} {names : List (List ℕ)} {e0 e1 : Expansion} {branch : 
 
       gathered-others : (c : List ℕ) → IsConfig s0.arities c → lists_at s0 (branch ∷ []) c ≡ [] → (at new e2 c ≡ at old e0 c) × (has_each s2 e2.top.work c ≡ has_each s0 e0.top.work c)
       gathered-others c listed lists =
-          let lacks = none-has (s0.has branch.cond.0 c) branch.places.items lists in
+          let lacks = lacks-first (s0.has branch.cond.0 c) branch.places.items [] lists in
           let listed1 = IsConfig-Keeps left.keeps listed in (
             others c listed1 (has-later c listed ∙ lacks) ∙ left-other c listed lacks,
             ap (λ l. has_each s2 l c) kept.work ∙ (has_each-Keeps e1.top.work c grows.sets left-work.own listed1 ∙ (left.others c listed lacks).1),

@@ -16,10 +16,7 @@ use Rattle.sc_guarded.proofs.ItemLemmas.{faults_at-Keeps}
 use Rattle.sc_hoist.specs.Alike.{AreAlikeFaults}
 use Rattle.sc_model.proofs.SetLemmas.{Denotes-Keeps, IsConfig-Keeps, IsConfig-kept, Keeps-trans}
 use Rattle.sc_model.specs.Sets.{Denotes, IsCond, IsConfig, Keeps, Sets}
-
-or-true : (b : Bool) → (b || true) ≡ true
-or-true true = refl
-or-true false = refl
+use Rattle.std.proofs.lemmas.Bool.{or_right}
 
 -- those of the whole list wait
 module _ {s0 s1 s2 : Sets} (first : Keeps s0 s1) (second : Keeps s1 s2) (still bare alone left : ℕ) (failure : Failure Place) (was now : Refusals) (live_own : IsCond s0 was.live.0) (bare_own : IsCond s0 bare)
@@ -68,7 +65,7 @@ module _ {s0 s1 s2 : Sets} (first : Keeps s0 s1) (second : Keeps s1 s2) (still b
   }
     where
       by : (c : List ℕ) (b : Bool) → record { failures = failures_at s0 was.faults.items c; waiting = s0.has was.waiting.0 c || b } ≡ (if b then with_end (ends_at s0 was c) waits else ends_at s0 was c)
-      by c true = λ i. record { failures = failures_at s0 was.faults.items c; waiting = or-true (s0.has was.waiting.0 c) i }
+      by c true = λ i. record { failures = failures_at s0 was.faults.items c; waiting = or_right (s0.has was.waiting.0 c) true refl i }
       by c false = λ i. record { failures = failures_at s0 was.faults.items c; waiting = or-false (s0.has was.waiting.0 c) i }
 
 -- those of an argument are refused, where a parenthesis opened the call

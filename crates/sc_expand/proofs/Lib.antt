@@ -27,6 +27,7 @@ pub mod MachineCalls
 pub mod MachineReplaces
 pub mod MachineGoesOn
 pub mod MachineLeaves
+pub mod Substituting
 pub mod Placing
 pub mod TakingLemmas
 pub mod TakingSteps
@@ -79,8 +80,7 @@ pub mod BetweenTurns
 pub mod PhaseCalls
 pub mod PhaseAlike
 pub mod FirstCallLemmas
-pub mod FrontRuns
-pub mod SettlingSteps
+pub mod NameRuns
 pub mod PlainSettles
 pub mod SettledEnds
 pub mod SettledPlaces

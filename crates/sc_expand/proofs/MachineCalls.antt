@@ -14,20 +14,13 @@ use Rattle.sc_expand.specs.declared.call.Call.{Call}
 use Rattle.sc_expand.specs.declared.frame.Enclosing.{Enclosing}
 use Rattle.sc_expand.specs.Machine.{IsAbsent, Stands, no_view, state_in, with_call}
 use Rattle.sc_expand.specs.Plain as plain
-use Rattle.sc_expand.specs.Plain.{Moves, State, Waiting, expanding, scanning, waiting, with_expanded, without_first}
+use Rattle.sc_expand.specs.Plain.{Moves, Waiting, expanding, scanning, waiting, with_expanded, without_first}
 use Rattle.sc_expand.specs.Seen.{Stores, View, calls_at, seen_at, state_by, state_of, view_at, waiting_at}
+use Rattle.std.proofs.lemmas.Bool.{cond-false, cond-true}
 
 pub last-alone : {A : Type 0} (xs : List A) (x : A) → length (xs ++ x ∷ []) ≤ 1 → xs ≡ []
 last-alone [] x few = refl
 last-alone (y ∷ ys) x few = absurd (omega (arith, few, length-append ys (x ∷ [])))
-
-taken : {A : Type 0} (b : Bool) (x y : A) → b ≡ true → (if b then x else y) ≡ x
-taken true x y is = refl
-taken false x y is = absurd (cc)
-
-other : {A : Type 0} (b : Bool) (x y : A) → b ≡ false → (if b then x else y) ≡ y
-other true x y is = absurd (cc)
-other false x y is = refl
 
 -- what it has of an argument: what was put out, and what is left
 abbrev pub argument_view : (out work : List (model.Hidden Place)) → View
@@ -61,13 +54,13 @@ module _ (st : Stores) (c : List ℕ) where
     state-more : {below : List Enclosing} (v : View) → IsOnTop st c below → state_in st (below ++ e ∷ []) v c ≡ under (map (pending_at st c) below) (state_in st (e ∷ []) v c)
     state-more v alone = refl
     state-more v (called_in {e = b} {es = bs} has none top) =
-        taken (st.sets.has b.call.cond.0 c) (expanding (seen_at st b.frame.out c) (seen_at st b.frame.work c) (waiting_at st b.call c) b.parameter (state_in st (bs ++ e ∷ []) v c)) (state_of (view_at st b.frame c)) has
+        cond-true (st.sets.has b.call.cond.0 c) (expanding (seen_at st b.frame.out c) (seen_at st b.frame.work c) (waiting_at st b.call c) b.parameter (state_in st (bs ++ e ∷ []) v c)) (state_of (view_at st b.frame c)) has
         ∙ ap (λ s. expanding (seen_at st b.frame.out c) (seen_at st b.frame.work c) (waiting_at st b.call c) b.parameter s) (state-more v top)
 
     state-less : {below : List Enclosing} (v w : View) → IsBelow st c below → state_in st (below ++ e ∷ []) v c ≡ state_in st below w c
     state-less v w (stops {e = b} {es = bs} not few absent) =
-        other (st.sets.has b.call.cond.0 c) (expanding (seen_at st b.frame.out c) (seen_at st b.frame.work c) (waiting_at st b.call c) b.parameter (state_in st (bs ++ e ∷ []) v c)) (state_of (view_at st b.frame c)) not
-        ∙ sym (other (st.sets.has b.call.cond.0 c) (expanding (seen_at st b.frame.out c) (seen_at st b.frame.work c) (waiting_at st b.call c) b.parameter (state_in st bs w c)) (state_of (view_at st b.frame c)) not)
+        cond-false (st.sets.has b.call.cond.0 c) (expanding (seen_at st b.frame.out c) (seen_at st b.frame.work c) (waiting_at st b.call c) b.parameter (state_in st (bs ++ e ∷ []) v c)) (state_of (view_at st b.frame c)) not
+        ∙ sym (cond-false (st.sets.has b.call.cond.0 c) (expanding (seen_at st b.frame.out c) (seen_at st b.frame.work c) (waiting_at st b.call c) b.parameter (state_in st bs w c)) (state_of (view_at st b.frame c)) not)
     state-less v w (goes {e = b} {es = bs} has none inner) =
         ap (λ s. if st.sets.has b.call.cond.0 c then expanding (seen_at st b.frame.out c) (seen_at st b.frame.work c) (waiting_at st b.call c) b.parameter s else state_of (view_at st b.frame c))
         (state-less v w inner)
@@ -125,7 +118,7 @@ module _ (st : Stores) (c : List ℕ) where
             state-top st c (with_call (view_at st e.frame c) w) top.0 ∙ ap (λ cs. under ps (state_by out work (cs ++ w ∷ []))) none in
             let now : state_in st (below ++ e ∷ []) (argument_view [] list) c ≡ under ps (expanding out work (without_first w others) e.parameter (scanning [] list)) =
             state-more (argument_view [] list) top.0
-            ∙ (ap (under ps) (taken (st.sets.has e.call.cond.0 c) (expanding out work (waiting_at st e.call c) e.parameter (scanning [] list)) (state_of (view_at st e.frame c)) has)
+            ∙ (ap (under ps) (cond-true (st.sets.has e.call.cond.0 c) (expanding out work (waiting_at st e.call c) e.parameter (scanning [] list)) (state_of (view_at st e.frame c)) has)
             ∙ ap (λ k. under ps (expanding out work k e.parameter (scanning [] list))) is) in
             let move = move-under provenance macros ps (waiting out work w) (expanding out work (without_first w others) e.parameter (scanning [] list)) (plain.enter out work list w e.parameter others wanted) in (
               top-stands st c (argument_view [] list) (top-more top.0 has none) (omega arith),
@@ -141,7 +134,7 @@ module _ (st : Stores) (c : List ℕ) where
         | inl top ↦ (
             let ps = map (pending_at st c) below in
             let stop = below-stop top.0 not top.1 in
-            let choice = other (st.sets.has e.call.cond.0 c) (expanding (seen_at st e.frame.out c) (seen_at st e.frame.work c) (waiting_at st e.call c) e.parameter (scanning [] [])) (state_of (view_at st e.frame c)) not in
+            let choice = cond-false (st.sets.has e.call.cond.0 c) (expanding (seen_at st e.frame.out c) (seen_at st e.frame.work c) (waiting_at st e.call c) e.parameter (scanning [] [])) (state_of (view_at st e.frame c)) not in
             (below-stands st c no_view stop refl, state-top st c (view_at st e.frame c) top.0 ∙ (ap (under ps) (sym choice) ∙ sym (state-more no_view top.0))))
         | inr b ↦ (below-stands st c no_view (below-more b.0 (record { view = b.1; call = not })) refl, sym (state-less no_view (view_at st e.frame c) b.0))
       ]
@@ -158,7 +151,7 @@ module _ (st : Stores) (c : List ℕ) where
             let less = top-less below whole.0 in
             let was : state_in st (below ++ e ∷ []) (argument_view list []) c ≡ under ps (expanding out work (waiting_at st e.call c) e.parameter (scanning list [])) =
             state-more (argument_view list []) less.top
-            ∙ ap (under ps) (taken (st.sets.has e.call.cond.0 c) (expanding out work (waiting_at st e.call c) e.parameter (scanning list [])) (state_of (view_at st e.frame c)) has) in
+            ∙ ap (under ps) (cond-true (st.sets.has e.call.cond.0 c) (expanding out work (waiting_at st e.call c) e.parameter (scanning list [])) (state_of (view_at st e.frame c)) has) in
             let now : state_in st below (with_call (view_at st e.frame c) w) c ≡ under ps (waiting out work (with_expanded (waiting_at st e.call c) e.parameter list)) =
             state-top st c (with_call (view_at st e.frame c) w) less.top ∙ (ap (λ cs. under ps (state_by out work (cs ++ w ∷ []))) less.none ∙ ap (λ k. under ps (waiting out work k)) is) in
             let move = move-under provenance macros ps (expanding out work (waiting_at st e.call c) e.parameter (scanning list [])) (waiting out work (with_expanded (waiting_at st e.call c) e.parameter list))
@@ -181,7 +174,7 @@ module _ (st : Stores) (c : List ℕ) where
         | inr b ↦ elim (below-less below b.0) [
           | inl stop ↦ (
               let ps = map (pending_at st c) below in
-              let choice = other (st.sets.has e.call.cond.0 c) (expanding (seen_at st e.frame.out c) (seen_at st e.frame.work c) (waiting_at st e.call c) e.parameter (state_of v)) (state_of (view_at st e.frame c)) not in
+              let choice = cond-false (st.sets.has e.call.cond.0 c) (expanding (seen_at st e.frame.out c) (seen_at st e.frame.work c) (waiting_at st e.call c) e.parameter (state_of v)) (state_of (view_at st e.frame c)) not in
               (top-stands st c (view_at st e.frame c) stop.top stop.few, state-more v stop.top ∙ (ap (under ps) choice ∙ sym (state-top st c (view_at st e.frame c) stop.top))))
           | inr gone ↦ (below-stands st c (view_at st e.frame c) gone.0 gone.1.view, state-less v (view_at st e.frame c) gone.0)
         ]

@@ -19,6 +19,7 @@ use Rattle.sc_expand.specs.Seen.{Grows, IsHeldEnclosing, Stores, View, calls_at,
 use Rattle.sc_expand.specs.Turn as turn
 use Rattle.sc_expand.specs.Turn.{At, End, Ends, EndsBy, IsDecided, Turn, ended, held_up, moved, no_end, over, passed, refused, with_end}
 use Rattle.sc_model.specs.Sets.{IsConfig}
+use Rattle.std.proofs.lemmas.Bool.{cond-true}
 
 -- ---- the state by the view of the frame on top
 
@@ -54,18 +55,10 @@ module _ (st : Stores) (c : List ℕ) where
   below-stands v (stops not few absent) none = here not few absent none
   below-stands v (goes has none b) is = inside has none (below-stands v b is)
 
-  taken : {A : Type 0} (b : Bool) (x y : A) → b ≡ true → (if b then x else y) ≡ x
-  taken true x y is = refl
-  taken false x y is = absurd (cc)
-
-  other : {A : Type 0} (b : Bool) (x y : A) → b ≡ false → (if b then x else y) ≡ y
-  other true x y is = absurd (cc)
-  other false x y is = refl
-
   pub state-top : {below : List Enclosing} (v : View) → IsOnTop st c below → state_in st below v c ≡ under (map (pending_at st c) below) (state_of v)
   state-top v alone = refl
   state-top v (called_in {e} {es} has none top) =
-      taken (st.sets.has e.call.cond.0 c) (expanding (seen_at st e.frame.out c) (seen_at st e.frame.work c) (waiting_at st e.call c) e.parameter (state_in st es v c)) (state_of (view_at st e.frame c)) has
+      cond-true (st.sets.has e.call.cond.0 c) (expanding (seen_at st e.frame.out c) (seen_at st e.frame.work c) (waiting_at st e.call c) e.parameter (state_in st es v c)) (state_of (view_at st e.frame c)) has
       ∙ ap (λ s. expanding (seen_at st e.frame.out c) (seen_at st e.frame.work c) (waiting_at st e.call c) e.parameter s) (state-top v top)
 
 -- ---- the stores grow

@@ -44,6 +44,7 @@ use Rattle.sc_model.specs.Bytes.{same_bytes}
 use Rattle.sc_model.specs.Sets.{IsConfig}
 use Rattle.sc_subst.specs.declared.hidden.Hidden.{Hidden}
 use Rattle.sc_subst.specs.Seen.{seen_hidden}
+use Rattle.c11_macros.proofs.CallEnds.{cons-some}
 
 -- how many items the configuration has of the list below all others
 bottom-count : (st : Stores) (e : Expansion) (c : List ℕ) (s : State Place) → state_now st e c ≡ s → length (behind_at st.sets (bottom e).work c) ≡ length (footprint.bottom s)
@@ -51,9 +52,6 @@ bottom-count st e c s is =
     length-behind st.sets c (bottom e).work ∙ (sym (length-map (items_at st.sets (bottom e).work c) (seen_hidden st.names st.hides)) ∙ ap length (sym (state-bottom st e c) ∙ ap footprint.bottom is))
 
 -- ---- the first token
-
-no-first : (t : model.Hidden Place) (rest : List (model.Hidden Place)) → t ∷ rest ≡ [] → ⊥
-no-first t rest none = cc
 
 some-first : {A : Type 0} (list : List A) (x : A) → slice_get list 0 ≡ Some x → list ≡ [] → ⊥
 some-first [] x first none = cc
@@ -223,7 +221,7 @@ module _ (files : List (List ℕ)) (macros : List ℕ → Macros) (names : List 
                   let state : state_now now e c ≡ under below (scanning out (t ∷ rest)) = state-top now c (view_at now e.top c) top.0 ∙ ap (under below) (λ i. state_by out (work i) (calls i)) in
                   uses-next (provenance_of files) (macros c) names (within c) below out rest t left f (subst (λ s. IsPending s left) state pending)
                   (subst (λ s. UsesFrom (provenance_of files) (macros c) s left f) state (phase.inside c p k live).uses) (macros d) agree looks
-              | inr below ↦ absurd (no-first t rest (sym work ∙ ap (λ v. v.work) below.1))
+              | inr below ↦ absurd (cons-some t rest (sym work ∙ ap (λ v. v.work) below.1))
             ];
       }
 

@@ -36,6 +36,7 @@ use Rattle.sc_hoist.specs.Calls.{call_end, call_end_at, call_places, closed}
 use Rattle.sc_model.proofs.SetLemmas.{IsConfig-kept}
 use Rattle.sc_model.specs.Sets.{IsConfig}
 use Rattle.sc_subst.specs.Seen.{seen_hidden}
+use Rattle.c11_macros.proofs.CallEnds.{cons-some}
 
 -- a name whose call is closed doesn't stay
 closed-replaces : (macros : Macros) (t : model.Hidden Place) (rest : List (model.Hidden Place)) (o : Option Definition) → macros t.spelling ≡ o → IsFunctionLike o → is_looked_up t ≡ true → call_end (spellings rest) ≡ closed
@@ -50,9 +51,6 @@ closed-replaces macros t rest (Some d) defined function looked ends stay =
     fits close after None is = absurd (cc)
     fits close after (Some arguments) is = absurd (cc)
 
-nothing-first : {A : Type 0} (x : A) (xs : List A) → x ∷ xs ≡ [] → ⊥
-nothing-first x xs none = cc
-
 module _ {files : List (List ℕ)} {macros : List ℕ → Macros} (names : List (List ℕ)) (within : (c : List ℕ) → IsWithin names (macros c)) {old now : Stores} {was e : Expansion} (grows : Grows old now)
     (r : IsRunning files macros old now was e) (began : IsHeldExpansion old (length files) was) where
   -- who takes the name stands on top
@@ -61,7 +59,7 @@ module _ {files : List (List ℕ)} {macros : List ℕ → Macros} (names : List 
     where
       by : (IsOnTop now c e.below.items × (length (calls_at now e.top.calls.items c) ≤ 1)) ⊎ (IsBelow now c e.below.items × (view_at now e.top c ≡ no_view)) → IsOnTop now c e.below.items
       by (inl top) = top.0
-      by (inr under) = absurd (nothing-first (seen_hidden now.names now.hides t.item.1) (seen_at now (drop 1 e.top.work) c) (sym (seen-first now c e.top.work t.item t.first t.has) ∙ ap (λ (v : View). v.work) under.1))
+      by (inr under) = absurd (cons-some (seen_hidden now.names now.hides t.item.1) (seen_at now (drop 1 e.top.work) c) (sym (seen-first now c e.top.work t.item t.first t.has) ∙ ap (λ (v : View). v.work) under.1))
 
   module _ (phase : Phase files macros old now was e) (ready : IsReady files macros phase) where
     -- something is left of what was made, or of the name itself
@@ -72,7 +70,7 @@ module _ {files : List (List ℕ)} {macros : List ℕ → Macros} (names : List 
         calls = ap (λ l. calls_at now l c) t.calls
 
         some : e.top.work ≡ [] → ⊥
-        some none = nothing-first t.item (drop 1 e.top.work) (sym (first-is e.top.work t.item t.first) ∙ none)
+        some none = cons-some t.item (drop 1 e.top.work) (sym (first-is e.top.work t.item t.first) ∙ none)
 
         by : (e.below.items ≡ []) ⊎ Waits (state_now now e c) → IsPending (state_now now e c) (last_at now e phase.n c)
         by (inr waits) = waits-pending (state_now now e c) (last_at now e phase.n c) waits

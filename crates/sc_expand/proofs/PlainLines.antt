@@ -1,5 +1,5 @@
 -- What an expansion puts out stands on one line.
-use Rattle.std.proofs.Common.{◌≡◌, is_ok, set, ℕ, zero, suc, ◌+◌, ◌==◌, ◌/◌, ◌%◌, ◌&&◌, ◌||◌, not, Bool, true, false, List, [], ◌∷◌, ◌++◌, All, IfOk, map, length, get_or, codes, decimal, Option, Some, None, Result, Ok, Err, refl, sym, ap, subst, ◌∙◌, arith, if◌then◌else◌}
+use Rattle.std.proofs.Common.{◌≡◌, is_ok, set, ℕ, zero, suc, ◌+◌, ◌==◌, ◌/◌, ◌%◌, ◌&&◌, ◌||◌, not, Bool, true, false, List, [], ◌∷◌, ◌++◌, All, IfOk, map, length, codes, decimal, Option, Some, None, Result, Ok, refl, sym, ap, subst, ◌∙◌, arith, if◌then◌else◌}
 use Rattle.std.proofs.lemmas.Bool.{ne_eqb, not-true, not_from_false, or_from, or_parts}
 use Rattle.std.proofs.lemmas.List.Elements.{All-from_recursion, recursion_from_All}
 use Rattle.std.proofs.lemmas.List.Folds.{list_any-append}
@@ -9,45 +9,27 @@ use Rattle.std.specs.Option.{IfSome}
 use Rattle.std.specs.Prelude.{nat_lt}
 use Rattle.c11_macros.specs.Call.{Call, Role, opening, closing, comma, other, apart, arguments_for, call_of, call_step, counts, filled_up, given, is_nothing, onto, onto_argument, role_of}
 use Rattle.c11_macros.specs.Expansion as expansion
-use Rattle.c11_macros.specs.Expansion.{Case, stays, replaced, unclosed, misfit, called, asked, call_case, case_of, defined_case, fitted_case, form_case, is_looked_up, list_of, looked_up_case, with_first, Expands, Each, Rescans}
-use Rattle.c11_macros.specs.Hidden.{Failure, Hidden, HideSet, Provenance, failure_at, meet, no_names, with_name}
-use Rattle.c11_macros.proofs.OneLineLists.{both, every-map}
+use Rattle.c11_macros.specs.Expansion.{Case, stays, replaced, unclosed, misfit, called, asked, call_result, call_case, case_of, defined_case, fitted_case, form_case, is_looked_up, list_of, looked_up_case, with_first, Expands, Each, Rescans}
+use Rattle.c11_macros.specs.Hidden.{Failure, Hidden, HideSet, Provenance, meet, with_name}
+use Rattle.c11_macros.proofs.OneLineLists.{both}
 use Rattle.c11_macros.specs.Macros.{Definition, Form, IsOneLineList, Macros, Replacement, escaped, file_name, function_like, items, line_number, list_at, object_like}
 use Rattle.sc_model.specs.Token.{Item}
-use Rattle.c11_macros.specs.Results.{result_and_then, result_map}
-use Rattle.c11_macros.specs.Substitution as substitution
-use Rattle.c11_macros.specs.Substitution.{Before, Part, Piece, Slot, after_hash, after_paste, all_glued, argument, argument_pieces, begins_paste, begins_with_parameter, filled, filled_by, for_parameter, for_paste, glued, hidden_by, hiding, is_after_paste, is_hash, is_paste, is_quoted_kind, is_text_kind, joined, literal_of, neither, operand_part, operator, or_placemarker, parameter_of, parts, pasted_as, piece, pieces_of, placemarker, quoted_spelling, slot_of, slots, spellings, spellings_after, stringized, substituted, tokens_of, with_space, put_together, wanted_of}
-use Rattle.c11_tokens.specs.Relex.{relexed}
+use Rattle.c11_macros.specs.Runs as runs
+use Rattle.c11_macros.specs.Runs.{End, over, waits, fails, Leaves, within, beyond, Passes, Runs, Settles, Uses}
+use Rattle.c11_macros.specs.Substitution.{argument, is_quoted_kind, neither, parts, quoted_spelling, slots, spellings, spellings_after, substituted, wanted_of}
 use Rattle.sc_expand.specs.OneLine.{AreOneLine, IsInPlace, IsOneLine}
-use Rattle.sc_model.specs.declared.cause.Cause.TheVariants.{BadStringize}
-use Rattle.sc_model.specs.declared.kind.Kind.{Kind}
-use Rattle.sc_model.specs.declared.kind.Kind.TheVariants.{Text}
 use Rattle.sc_model.specs.Bytes.{has_no_newline, same_bytes}
 use Rattle.sc_model.specs.Token.{Place}
-
--- ---- steps of which each may fail, lists, tests
-
-ok-map : {A B E : Type 0} (C : A → Type 0) (D : B → Type 0) (g : A → B) → ((x : A) → C x → D (g x)) → (r : Result A E) → IfOk r C → IfOk (result_map g r) D
-ok-map C D g h (Ok x) k = h x k
-ok-map C D g h (Err e) k = tt
-
-ok-then : {A B E : Type 0} (C : A → Type 0) (D : B → Type 0) (g : A → Result B E) → ((x : A) → C x → IfOk (g x) D) → (r : Result A E) → IfOk r C → IfOk (result_and_then g r) D
-ok-then C D g h (Ok x) k = h x k
-ok-then C D g h (Err e) k = tt
+use Rattle.sc_expand.proofs.Substituting.{Lasts, argument-of, every-append, ok-map, ok-then, substituted-of}
 
 every-set : {A : Type 0} (C : A → Type 0) (xs : List A) (n : ℕ) (x : A) → Every C xs → C x → Every C (set xs n x)
 every-set C [] n x h k = tt
 every-set C (y ∷ ys) zero x h k = (k, h.1)
 every-set C (y ∷ ys) (suc n) x h k = (h.0, every-set C ys n x h.1 k)
 
-every-append : {A : Type 0} (C : A → Type 0) (xs ys : List A) → Every C xs → Every C ys → Every C (xs ++ ys)
-every-append C [] ys h k = k
-every-append C (x ∷ xs) ys h k = (h.0, every-append C xs ys h.1 k)
-
-every-get : {A : Type 0} (C : A → Type 0) (xs : List A) (n : ℕ) (d : A) → C d → Every C xs → C (get_or xs n d)
-every-get C [] n d h k = h
-every-get C (x ∷ xs) zero d h k = k.0
-every-get C (x ∷ xs) (suc n) d h k = every-get C xs n d h k.1
+every-front : {A : Type 0} (C : A → Type 0) (xs ys : List A) → Every C (xs ++ ys) → Every C xs
+every-front C [] ys h = tt
+every-front C (x ∷ xs) ys h = (h.0, every-front C xs ys h.1)
 
 -- ---- texts
 
@@ -93,28 +75,6 @@ list-plain (items list) place h file = recursion_from_All PlainItem list h
 list-plain file_name place h file = (quoted-plain (escaped place.file) (escaped-plain place.file file), tt)
 list-plain line_number place h file = (decimal-plain place.position.line, tt)
 
-abbrev PlainPart : Part → Type 0
-PlainPart (substitution.token item) = PlainItem item
-PlainPart (substitution.literal n space) = Unit {0}
-PlainPart (substitution.parameter n space) = Unit {0}
-PlainPart substitution.paste = Unit {0}
-
-operand-plain : (before : Before) (item : Item) (o : Option ℕ) → PlainItem item → PlainPart (operand_part before item o)
-operand-plain before item None h = h
-operand-plain neither item (Some n) h = tt
-operand-plain after_paste item (Some n) h = tt
-operand-plain (after_hash space) item (Some n) h = tt
-
-parts-plain : (form : Form) (before : Before) (list : List Item) → PlainList list → Every PlainPart (parts form before list)
-parts-plain form before [] h = tt
-parts-plain form before (item ∷ list) h =
-    let operand = operand_part before item (parameter_of form item.spelling) ∷ parts form neither list in
-    let literal = parts form (after_hash item.space) list in
-    both (Every PlainPart) (is_paste item && not (is_after_paste before)) (substitution.paste ∷ parts form after_paste list) (if is_hash item && begins_with_parameter form list then literal else operand)
-    (tt, parts-plain form after_paste list h.1)
-    (both (Every PlainPart) (is_hash item && begins_with_parameter form list) literal operand (parts-plain form (after_hash item.space) list h.1)
-    (operand-plain before item (parameter_of form item.spelling) h.0, parts-plain form neither list h.1))
-
 module _ {P : Type 0} (provenance : Provenance P) where
   abbrev Plain : Hidden P → Type 0
   Plain t = IsOneLine provenance t
@@ -139,100 +99,6 @@ module _ {P : Type 0} (provenance : Provenance P) where
   spellings-plain : (ts : List (Hidden P)) → Plains ts → has_no_newline (spellings ts) ≡ true
   spellings-plain [] h = refl
   spellings-plain (t ∷ ts) h = append-plain (quoted_spelling t) (spellings_after ts) (quoted_spelling-plain t h.0) (spellings_after-plain ts h.1)
-
-  abbrev PlainSlot : Slot P → Type 0
-  PlainSlot (filled_by t) = Plain t
-  PlainSlot (for_parameter n space) = Unit {0}
-  PlainSlot for_paste = Unit {0}
-
-  abbrev PlainPiece : Piece P → Type 0
-  PlainPiece (piece t) = Plain t
-  PlainPiece operator = Unit {0}
-  PlainPiece placemarker = Unit {0}
-
-  argument-plain : (raw : List (List (Hidden P))) (n : ℕ) → Every Plains raw → Plains (argument raw n)
-  argument-plain raw n h = every-get Plains raw n [] tt h
-
-  module _ (head : Hidden P) (own : Plain head) where
-    literal-plain : (space : Bool) (spelling : List ℕ) → has_no_newline spelling ≡ true → IfOk (literal_of head space spelling) Plain
-    literal-plain space spelling h =
-        let text : Hidden P = record { kind = Text; spelling = spelling; space = space; place = head.place; hide = no_names } in
-        both (λ (r : Result (Hidden P) (Failure P)). IfOk r Plain) (is_text_kind (relexed spelling)) (Ok text) (Err (failure_at BadStringize head)) (record { spelling = h; file = own.file }) tt
-
-    module _ (raw : List (List (Hidden P))) (plain : Every Plains raw) where
-      slot-plain : (p : Part) → PlainPart p → IfOk (slot_of head raw p) PlainSlot
-      slot-plain (substitution.token item) h = record { spelling = h; file = own.file }
-      slot-plain (substitution.literal n space) h =
-          ok-map Plain PlainSlot filled_by (λ t k. k) (stringized head space (argument raw n))
-          (literal-plain space (34 ∷ spellings (argument raw n) ++ 34 ∷ []) (quoted-plain (spellings (argument raw n)) (spellings-plain (argument raw n) (argument-plain raw n plain))))
-      slot-plain (substitution.parameter n space) h = tt
-      slot-plain substitution.paste h = tt
-
-      slots-plain : (ps : List Part) → Every PlainPart ps → IfOk (slots head raw ps) (Every PlainSlot)
-      slots-plain [] h = tt
-      slots-plain (p ∷ ps) h =
-          ok-then PlainSlot (Every PlainSlot) (λ s. result_map (λ rest. s ∷ rest) (slots head raw ps))
-          (λ s k. ok-map (Every PlainSlot) (Every PlainSlot) (λ rest. s ∷ rest) (λ rest more. (k, more)) (slots head raw ps) (slots-plain ps h.1))
-          (slot_of head raw p) (slot-plain p h.0)
-
-  -- ---- arguments in the places of parameters
-
-  with_space-plain : (space : Bool) (ts : List (Hidden P)) → Plains ts → Plains (with_space space ts)
-  with_space-plain space [] h = tt
-  with_space-plain space (t ∷ ts) h = (record { spelling = h.0.spelling; file = h.0.file }, h.1)
-
-  pieces-plain : (ts : List (Hidden P)) → Plains ts → Every PlainPiece (pieces_of ts)
-  pieces-plain ts h = every-map Plain PlainPiece piece (λ t k. k) ts h
-
-  or_placemarker-plain : (ts : List (Hidden P)) → Plains ts → Every PlainPiece (or_placemarker ts)
-  or_placemarker-plain [] h = (tt, tt)
-  or_placemarker-plain (t ∷ ts) h = pieces-plain (t ∷ ts) h
-
-  module _ (raw expanded : List (List (Hidden P))) (plain : Every Plains raw) (good : Every Plains expanded) where
-    argument_pieces-plain : (beside : Bool) (n : ℕ) (space : Bool) → Every PlainPiece (argument_pieces raw expanded beside n space)
-    argument_pieces-plain true n space = or_placemarker-plain (with_space space (argument raw n)) (with_space-plain space (argument raw n) (argument-plain raw n plain))
-    argument_pieces-plain false n space = pieces-plain (with_space space (argument expanded n)) (with_space-plain space (argument expanded n) (argument-plain expanded n good))
-
-    filled-plain : (behind : Bool) (ss : List (Slot P)) → Every PlainSlot ss → Every PlainPiece (filled raw expanded behind ss)
-    filled-plain behind [] h = tt
-    filled-plain behind (filled_by t ∷ ss) h = (h.0, filled-plain false ss h.1)
-    filled-plain behind (for_paste ∷ ss) h = (tt, filled-plain true ss h.1)
-    filled-plain behind (for_parameter n space ∷ ss) h =
-        every-append PlainPiece (argument_pieces raw expanded (behind || begins_paste ss) n space) (filled raw expanded false ss) (argument_pieces-plain (behind || begins_paste ss) n space) (filled-plain false ss h.1)
-
-  -- ---- tokens pasted at each ##
-
-  module _ (head : Hidden P) where
-    pasted_as-plain : (left right : Hidden P) (kind : Option Kind) → Plain left → Plain right → IfOk (pasted_as head left right kind) PlainPiece
-    pasted_as-plain left right None h k = tt
-    pasted_as-plain left right (Some kind) h k = record { spelling = append-plain left.spelling right.spelling h.spelling k.spelling; file = h.file }
-
-    joined-plain : (left right : Piece P) → PlainPiece left → PlainPiece right → IfOk (joined head left right) PlainPiece
-    joined-plain (piece left) (piece right) h k = pasted_as-plain left right (relexed (left.spelling ++ right.spelling)) h k
-    joined-plain (piece left) operator h k = h
-    joined-plain (piece left) placemarker h k = h
-    joined-plain operator right h k = k
-    joined-plain placemarker right h k = k
-
-    glued-plain : (left : Piece P) (ps : List (Piece P)) → PlainPiece left → Every PlainPiece ps → IfOk (glued head left ps) (Every PlainPiece)
-    glued-plain left [] h k = (h, tt)
-    glued-plain left (operator ∷ []) h k = (h, tt)
-    glued-plain left (operator ∷ (right ∷ ps)) h k =
-        ok-then PlainPiece (Every PlainPiece) (λ p. glued head p ps) (λ p one. glued-plain p ps one k.1.1) (joined head left right) (joined-plain left right h k.1.0)
-    glued-plain left (piece t ∷ ps) h k =
-        ok-map (Every PlainPiece) (Every PlainPiece) (λ rest. left ∷ rest) (λ rest more. (h, more)) (glued head (piece t) ps) (glued-plain (piece t) ps k.0 k.1)
-    glued-plain left (placemarker ∷ ps) h k =
-        ok-map (Every PlainPiece) (Every PlainPiece) (λ rest. left ∷ rest) (λ rest more. (h, more)) (glued head placemarker ps) (glued-plain placemarker ps tt k.1)
-
-    all_glued-plain : (ps : List (Piece P)) → Every PlainPiece ps → IfOk (all_glued head ps) (Every PlainPiece)
-    all_glued-plain [] h = tt
-    all_glued-plain (p ∷ ps) h = glued-plain p ps h.0 h.1
-
-  tokens-plain : (ps : List (Piece P)) → Every PlainPiece ps → Plains (tokens_of ps)
-  tokens-plain [] h = tt
-  tokens-plain (piece t ∷ ps) h = (h.0, tokens-plain ps h.1)
-  tokens-plain (operator ∷ ps) h = tokens-plain ps h.1
-  tokens-plain (placemarker ∷ ps) h = tokens-plain ps h.1
 
   -- ---- calls
 
@@ -334,25 +200,23 @@ module _ {P : Type 0} (provenance : Provenance P) where
     -- ---- replacements and expansions
 
     module _ (stands : IsInPlace provenance) where
-      hiding-plain : (names : HideSet) (ts : List (Hidden P)) → Plains ts → Plains (hiding provenance names ts)
-      hiding-plain names ts h =
-          every-map Plain Plain (hidden_by provenance names)
-          (λ t k. record { spelling = k.spelling; file = subst (λ (p : Place). has_no_newline p.file ≡ true) (sym (stands.place t.place)) k.file }) ts h
+      lasts-plain : (head : Hidden P) → Plain head → Lasts provenance Plain PlainItem head
+      lasts-plain head own = record {
+        of_item = λ item h. record { spelling = h; file = own.file };
+        of_literal = λ space ts h. record { spelling = quoted-plain (spellings ts) (spellings-plain ts h); file = own.file };
+        of_paste = λ kind l r h k. record { spelling = append-plain l.spelling r.spelling h.spelling k.spelling; file = h.file };
+        of_space = λ space t h. record { spelling = h.spelling; file = h.file };
+        of_hide = λ names t h. record { spelling = h.spelling; file = subst (λ (p : Place). has_no_newline p.file ≡ true) (sym (stands.place t.place)) h.file };
+      }
 
       substituted-plain : (form : Form) (list : List Item) (head : Hidden P) (raw expanded : List (List (Hidden P))) (names : HideSet)
           → PlainList list → Plain head → Every Plains raw → Every Plains expanded → PlainAnswer (substituted provenance form list head raw expanded names)
-      substituted-plain form list head raw expanded names plain own arguments good =
-          ok-then (Every PlainSlot) Plains (put_together provenance head raw expanded names)
-          (λ ss h.
-          ok-map (Every PlainPiece) Plains (λ pieces. hiding provenance names (with_space head.space (tokens_of pieces)))
-          (λ pieces k. hiding-plain names (with_space head.space (tokens_of pieces)) (with_space-plain head.space (tokens_of pieces) (tokens-plain pieces k)))
-          (all_glued head (filled raw expanded false ss)) (all_glued-plain head (filled raw expanded false ss) (filled-plain raw expanded arguments good false ss h)))
-          (slots head raw (parts form neither list)) (slots-plain head own raw arguments (parts form neither list) (parts-plain form neither list plain))
+      substituted-plain form list head raw expanded names plain own arguments good = substituted-of provenance Plain PlainItem head (lasts-plain head own) raw expanded arguments good form list names plain
 
       -- the arguments that are asked for, and the lists before they expand
       asks-plain : (arguments : List (List (Hidden P))) (ns : List ℕ) → Every Plains arguments → Every (λ (ask : ℕ × List (Hidden P)). Plains ask.1) (map (λ n. (n, argument arguments n)) ns)
       asks-plain arguments [] h = tt
-      asks-plain arguments (n ∷ ns) h = (argument-plain arguments n h, asks-plain arguments ns h)
+      asks-plain arguments (n ∷ ns) h = (argument-of provenance Plain PlainItem arguments n h, asks-plain arguments ns h)
 
       asked-plain : (d : Definition) (t : Hidden P) (arguments : List (List (Hidden P))) → Every Plains arguments → Every (λ (ask : ℕ × List (Hidden P)). Plains ask.1) (asked provenance d t arguments)
       asked-plain d t arguments h =
@@ -397,3 +261,63 @@ module _ {P : Type 0} (provenance : Provenance P) where
       -- where the tokens and the macros' lists stand on one line each
       pub stays-on_one_line : (ts out : List (Hidden P)) → All (IsOneLine provenance) ts → Expands provenance macros ts (Ok out) → All (IsOneLine provenance) out
       stays-on_one_line ts out h d = All-from_recursion Plain out (expands-plain d (recursion_from_All Plain ts h))
+
+      -- ---- what a list settles to
+
+      abbrev PlainEnd : End P → Type 0
+      PlainEnd (over after) = Plains after
+      PlainEnd (waits name rest) = Plain name × Plains rest
+      PlainEnd (fails failure) = Unit {0}
+
+      leaves-plain : {source after front rest taken : List (Hidden P)} → Leaves source after front rest taken → Plains source → Plains after → Plains front × Plains rest
+      leaves-plain {source} {front = front} (within is) h k = (every-front Plain front source (subst Plains is k), h)
+      leaves-plain (beyond is some) h k = (tt, k)
+
+      call-plain : {t : Hidden P} {body : List (Hidden P)} (d : Definition) (arguments : List (List (Hidden P))) (close : Hidden P) (after : List (Hidden P))
+          (results : Result (List (List (Hidden P))) (Failure P)) → PlainCalled d arguments close after → Plain t → Each provenance macros (asked provenance d t arguments) (map (λ a. []) arguments) results
+          → call_result provenance d t arguments close results ≡ Ok body → Plains body
+      call-plain {t} d arguments close after results k own each made =
+          let list = list_of-plain d t k.list own in
+          let names = with_name (meet t.hide close.hide) t.spelling in
+          let good = each-plain each (asked-plain d t arguments k.arguments) (unexpanded-plain arguments) in
+          subst PlainAnswer made
+          (ok-then (Every Plains) Plains (λ lists. substituted provenance d.form (list_of provenance d t) t arguments lists names)
+          (λ lists all. substituted-plain d.form (list_of provenance d t) t arguments lists names list own k.arguments all) results good)
+
+      runs-plain : {front source done : List (Hidden P)} {end : End P} {u : Uses P} → Runs provenance macros front source done end u → Plains front → Plains source → Plains done × PlainEnd end
+      runs-plain runs.used_up h k = (tt, k)
+      runs-plain (runs.stay is last g) h k = let more = runs-plain g h.1 k in ((h.0, more.0), more.1)
+      runs-plain (runs.alone {front = front} {source} is) h k = (tt, (h.0, every-append Plain front source h.1 k))
+      runs-plain (runs.open_call {front = front} {source} is) h k = (tt, (h.0, every-append Plain front source h.1 k))
+      runs-plain (runs.object {t} {front} {source} d body is made g) h k =
+          let list = list_of-plain d t (case-plain t (front ++ source) (replaced d) is (every-append Plain front source h.1 k)) h.0 in
+          let new = subst PlainAnswer made (substituted-plain d.form (list_of provenance d t) t [] [] (with_name t.hide t.spelling) list h.0 tt tt) in
+          runs-plain g (every-append Plain body front new h.1) k
+      runs-plain (runs.call {t} {front} {source} d arguments close after left rest taken body results is leaves each made g) h k =
+          let called = case-plain t (front ++ source) (called d arguments close after) is (every-append Plain front source h.1 k) in
+          let behind = leaves-plain leaves k called.after in
+          runs-plain g (every-append Plain body left (call-plain d arguments close after results called h.0 each made) behind.0) behind.1
+      runs-plain (runs.bad_object d failure is made) h k = (tt, tt)
+      runs-plain (runs.bad_count after left rest taken is leaves) h k = (tt, tt)
+      runs-plain (runs.bad_call d arguments close after left rest taken results failure is leaves each made) h k = (tt, tt)
+
+      passes-plain : {ts done left : List (Hidden P)} → Passes provenance macros ts done left → Plains ts → Plains done × Plains left
+      passes-plain runs.begins h = (tt, h)
+      passes-plain (runs.goes_on {out} {done} u first last) h =
+          let before = passes-plain first h in
+          let now = runs-plain last (before.1.0, tt) before.1.1 in
+          (every-append Plain out done before.0 now.0, now.1)
+
+      -- so do what they settle to and what is left
+      pub settles-on_one_line : (ts done left : List (Hidden P)) → All (IsOneLine provenance) ts → Settles provenance macros ts done left
+          → All (IsOneLine provenance) done × All (IsOneLine provenance) left
+      settles-on_one_line ts done left h d =
+          let found = by d (recursion_from_All Plain ts h) in
+          (All-from_recursion Plain done found.0, All-from_recursion Plain left found.1)
+        where
+          by : {ts done left : List (Hidden P)} → Settles provenance macros ts done left → Plains ts → Plains done × Plains left
+          by (runs.whole first) h = passes-plain first h
+          by (runs.open_end {out} {done} u first last) h =
+              let before = passes-plain first h in
+              let now = runs-plain last (before.1.0, tt) before.1.1 in
+              (every-append Plain out done before.0 now.0, now.1)

@@ -3,14 +3,7 @@ use Rattle.std.proofs.Common.{◌≡◌, ℕ, List, [], ◌∷◌, ◌++◌, ref
 use Rattle.c11_macros.specs.Footprint.{Footprint, with_names}
 use Rattle.c11_macros.specs.Macros.{Macros}
 use Rattle.c11_macros.specs.Trace.{Agree}
-
-agree-front : (one two : Macros) (xs ys : List (List ℕ)) → Agree one two (xs ++ ys) → Agree one two xs
-agree-front one two [] ys agree = tt
-agree-front one two (x ∷ xs) ys agree = (agree.0, agree-front one two xs ys agree.1)
-
-agree-back : (one two : Macros) (xs ys : List (List ℕ)) → Agree one two (xs ++ ys) → Agree one two ys
-agree-back one two [] ys agree = agree
-agree-back one two (x ∷ xs) ys agree = agree-back one two xs ys agree.1
+use Rattle.c11_macros.proofs.Agreement.{agree-back, agree-front}
 
 agree-both : (one two : Macros) (xs ys : List (List ℕ)) → Agree one two xs → Agree one two ys → Agree one two (xs ++ ys)
 agree-both one two [] ys first second = second

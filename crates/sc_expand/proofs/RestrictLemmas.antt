@@ -1,5 +1,5 @@
 -- Lists whose first items are restricted, of which the last items stand under one condition.
-use Rattle.std.proofs.Common.{◌≡◌, ◌<◌, ◌≤◌, Bool, true, false, if◌then◌else◌, ℕ, zero, suc, ◌+◌, ◌&&◌, List, [], ◌∷◌, ◌++◌, All, Some, map, take, drop, length, min, cond, Ordering, Less, Equal, Greater, set, get_or, slice_get, ap, sym, ◌∙◌, refl, subst, arith, add-zero, append_assoc}
+use Rattle.std.proofs.Common.{◌≡◌, ◌<◌, ◌≤◌, Bool, ℕ, zero, suc, ◌+◌, ◌&&◌, List, [], ◌∷◌, ◌++◌, All, Some, map, take, drop, length, min, cond, Ordering, Less, Equal, Greater, set, get_or, slice_get, ap, sym, ◌∙◌, refl, subst, arith, add-zero, append_assoc}
 use Rattle.std.proofs.Math.Seq.{get_or-append_seam, set-append_seam}
 use Rattle.std.proofs.lemmas.List.{get_or_append_left, length-append, length-map, nil_from_length, set-append_left, take-append-drop}
 use Rattle.std.proofs.lemmas.List.Elements.{All-take}
@@ -14,6 +14,7 @@ use Rattle.sc_hoist.specs.Alike.{AreAlike}
 use Rattle.sc_model.proofs.SetLemmas.{Denotes-self, IsConfig-Keeps, IsConfig-kept, Keeps-refl, Keeps-trans}
 use Rattle.sc_model.specs.Sets.{Sets, IsConfig, IsCond, Denotes, Keeps}
 use Rattle.sc_subst.specs.declared.hidden.Hidden.{Hidden}
+use Rattle.sc_expand.proofs.AlikeLemmas.{none-told}
 
 -- the lesser number, by the order of numbers
 pub ord_min-min : (a b : ℕ) → ord_min nat_cmp a b ≡ min a b
@@ -60,17 +61,13 @@ module _ {T : Type 0} where
   AreAlike-Restricted {first} {now} {before = before} {after = after} was c d m at_c at_d same =
       restricted_alike first now c d m before after (length-Restricted was) (λ k z within. was.alike c d k z at_c at_d same within)
 
-  none_has : (b : Bool) → ◌≡◌ {A = List T} [] (if b then [] else [])
-  none_has true = refl
-  none_has false = refl
-
   pub restricted_none : (first : Sets) (by : ℕ) (items : List (Cond × T)) → All (λ (item : Cond × T). IsCond first item.0.0) items → Restricted first first by 0 items items
   restricted_none first by items own = record {
     keeps = Keeps-refl first;
     items = refl;
     rest = refl;
     own = own;
-    at = λ c listed. none_has (first.has by c);
+    at = λ c listed. none-told (first.has by c);
     same = λ c listed has. refl;
     alike = λ c d k z at_c at_d same low told. told;
   }

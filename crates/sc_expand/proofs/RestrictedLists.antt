@@ -1,5 +1,5 @@
 -- Lists that are restricted to the configurations of a condition.
-use Rattle.std.proofs.Common.{◌≡◌, ◌&&◌, Bool, true, false, ℕ, List, [], ◌∷◌, All, refl, ap, ◌∙◌, sym, if◌then◌else◌}
+use Rattle.std.proofs.Common.{◌≡◌, ◌&&◌, Bool, true, false, ℕ, List, [], ◌∷◌, All, ap, ◌∙◌, sym, if◌then◌else◌}
 use Rattle.std.proofs.lemmas.List.Elements.{All-cons, All-head, All-nil, All-tail}
 use Rattle.sc_expand.specs.Unchanged as unchanged
 use Rattle.sc_expand.specs.Unchanged.{IsRestricted, empty}
@@ -7,12 +7,9 @@ use Rattle.sc_base.specs.declared.id.Cond.{Cond}
 use Rattle.sc_guarded.specs.Items.{items_at}
 use Rattle.sc_hoist.specs.Alike.{AreAlike, IsAlike}
 use Rattle.sc_model.specs.Sets.{IsCond, IsConfig, IsNever, Sets}
+use Rattle.sc_expand.proofs.AlikeLemmas.{none-told}
 
 module _ {T : Type 0} (s : Sets) (live : ℕ) where
-  none-left : (b : Bool) → ◌≡◌ {A = List T} [] (if b then [] else [])
-  none-left true = refl
-  none-left false = refl
-
   one-kept : (has here : Bool) (x : T) (ts us : List T) → us ≡ (if here then ts else []) → (if has && here then x ∷ us else us) ≡ (if here then (if has then x ∷ ts else ts) else [])
   one-kept true true x ts us is = ap (λ l. x ∷ l) is
   one-kept true false x ts us is = is
@@ -20,13 +17,10 @@ module _ {T : Type 0} (s : Sets) (live : ℕ) where
   one-kept false false x ts us is = is
 
   one-out : (has here : Bool) (x : T) (ts us : List T) → (has && here) ≡ false → us ≡ (if here then ts else []) → us ≡ (if here then (if has then x ∷ ts else ts) else [])
-  one-out true true x ts us not is = absurd (cc)
-  one-out true false x ts us not is = is
-  one-out false true x ts us not is = is
-  one-out false false x ts us not is = is
+  one-out has here x ts us not is = ap (λ b. if b then x ∷ us else us) (sym not) ∙ one-kept has here x ts us is
 
   pub restricted-items : {xs us : List (Cond × T)} → IsRestricted s live xs us → (c : List ℕ) → IsConfig s.arities c → items_at s us c ≡ (if s.has live c then items_at s xs c else [])
-  restricted-items empty c listed = none-left (s.has live c)
+  restricted-items empty c listed = none-told (s.has live c)
   restricted-items (unchanged.kept cond item list rest both some r) c listed =
       ap (λ b. if b then item.1 ∷ items_at s rest c else items_at s rest c) (both.at c listed) ∙ one-kept (s.has item.0.0 c) (s.has live c) item.1 (items_at s list c) (items_at s rest c) (restricted-items r c listed)
   restricted-items (unchanged.left_out item list rest none r) c listed = one-out (s.has item.0.0 c) (s.has live c) item.1 (items_at s list c) (items_at s rest c) (none c listed) (restricted-items r c listed)

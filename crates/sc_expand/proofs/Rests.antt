@@ -1,6 +1,6 @@
 -- What drops out of the frame on top, with all that is next for refused configurations alone, and
 -- what does not: no configuration that was not refused moves.
-use Rattle.std.proofs.Common.{◌≡◌, ℕ, zero, suc, ◌-◌, ◌&&◌, Bool, true, false, true≢false, List, [], ◌∷◌, ◌++◌, All, drop, length, map, take, length-append, append-nil, Option, Some, None, slice_get, refl, sym, ap, subst, ◌∙◌, arith, if◌then◌else◌}
+use Rattle.std.proofs.Common.{◌≡◌, ℕ, zero, suc, ◌-◌, ◌&&◌, Bool, true, false, true≢false, List, [], ◌∷◌, ◌++◌, All, drop, length, map, take, length-append, append-nil, Option, Some, None, slice_get, refl, sym, ap, subst, ◌∙◌, arith}
 use Rattle.std.proofs.lemmas.List.Elements.{All-head, All-pop, All-tail}
 use Rattle.c11_macros.specs.Hidden.{Provenance}
 use Rattle.c11_macros.specs.Macros.{Macros}
@@ -35,6 +35,7 @@ use Rattle.sc_model.proofs.ListLemmas.{slice_get-seam}
 use Rattle.sc_model.specs.Sets.{Sets, Denotes, IsCond, IsConfig, IsNever, Keeps}
 use Rattle.sc_subst.specs.declared.hidden.Hidden.{Hidden}
 use Rattle.sc_subst.specs.Seen.{seen_hidden}
+use Rattle.std.proofs.lemmas.Bool.{cond-false, false_from_ne_true}
 
 -- ---- what is next
 
@@ -121,14 +122,6 @@ module _ {old new : Stores} (grows : Grows old new) (e : Expansion) where
 -- ---- what is next drops out, and only refused configurations have it
 
 module _ (st : Stores) (e after : Expansion) (refusals : after.refusals ≡ e.refusals) (sets : after.sets ≡ e.sets) where
-  other : {A : Type 0} (b : Bool) (x y : A) → (b ≡ true → ⊥) → (if b then x else y) ≡ y
-  other true x y not = absurd (not refl)
-  other false x y not = refl
-
-  absent : (b : Bool) → (b ≡ true → ⊥) → b ≡ false
-  absent true not = absurd (not refl)
-  absent false not = refl
-
   -- a configuration that has it was refused
   by_view : {provenance : Provenance Place} {macros : Macros} (c : List ℕ)
       → (st.sets.has e.refusals.live.0 c ≡ true → Stands st c e.below.items (view_at st e.top c)
@@ -170,7 +163,7 @@ module _ (st : Stores) (e after : Expansion) (refusals : after.refusals ≡ e.re
     progress = λ files provenance macros c held listed. by_view c (λ live. same_view c below (
         let fewer : seen_at st after.top.work c ≡ seen_at st e.top.work c = sym (
         ap (λ l. seen_at st l c) work
-        ∙ ap (map (seen_hidden st.names st.hides)) (other (st.sets.has item.0.0 c) (item.1 ∷ items_at st.sets after.top.work c) (items_at st.sets after.top.work c) (λ has. never c listed has live))) in
+        ∙ ap (map (seen_hidden st.names st.hides)) (cond-false (st.sets.has item.0.0 c) (item.1 ∷ items_at st.sets after.top.work c) (items_at st.sets after.top.work c) (false_from_ne_true (st.sets.has item.0.0 c) (λ has. never c listed has live)))) in
         let first = ap (λ l. seen_at st l c) out in
         let third = ap (λ l. calls_at st l c) calls in
         λ i. record { out = first i; work = fewer i; calls = third i }));
@@ -191,7 +184,7 @@ module _ (st : Stores) (e after : Expansion) (refusals : after.refusals ≡ e.re
         };
     rest = λ files c held p live.
         ap (λ b. behind_at st.sets (bottom_by b.items after.top).work c) below
-        ∙ behind-top c e.below.items e.top after.top (behind-other st.sets c item e.top.work after.top.work work (absent (st.sets.has item.0.0 c) (λ has. never c p has live)));
+        ∙ behind-top c e.below.items e.top after.top (behind-other st.sets c item e.top.work after.top.work work (false_from_ne_true (st.sets.has item.0.0 c) (λ has. never c p has live)));
   }
 
   pub rested-dropped : ((cond : Cond) → next_of e ≡ Some cond → (c : List ℕ) → IsConfig st.sets.arities c → st.sets.has cond.0 c ≡ true → st.sets.has e.refusals.live.0 c ≡ true → ⊥)
@@ -214,7 +207,7 @@ module _ (st : Stores) (e after : Expansion) (refusals : after.refusals ≡ e.re
     progress = λ files provenance macros c held listed. by_view c (λ live. same_view c below (
         let fewer : calls_at st after.top.calls.items c ≡ calls_at st e.top.calls.items c = sym (
         ap (λ ks. calls_at st ks c) calls ∙ (calls_at-append st c after.top.calls.items (k ∷ [])
-        ∙ (ap (λ ws. calls_at st after.top.calls.items c ++ ws) (other (st.sets.has k.cond.0 c) (waiting_at st k c ∷ []) [] (λ has. never k.cond (next-call e after.top.calls.items k calls) c listed has live))
+        ∙ (ap (λ ws. calls_at st after.top.calls.items c ++ ws) (cond-false (st.sets.has k.cond.0 c) (waiting_at st k c ∷ []) [] (false_from_ne_true (st.sets.has k.cond.0 c) (λ has. never k.cond (next-call e after.top.calls.items k calls) c listed has live)))
         ∙ append-nil (calls_at st after.top.calls.items c)))) in
         let first = ap (λ l. seen_at st l c) out in
         let second = ap (λ l. seen_at st l c) work in
@@ -252,7 +245,7 @@ module _ (st : Stores) (e after : Expansion) (refusals : after.refusals ≡ e.re
           below = popped.0;
         };
     progress = λ files provenance macros c held listed. by_view c (λ live stands.
-        let not = absent (st.sets.has o.call.cond.0 c) (λ has. never o.call.cond (next-argument e after.below.items o none empty below) c listed has live) in
+        let not = false_from_ne_true (st.sets.has o.call.cond.0 c) (λ has. never o.call.cond (next-argument e after.below.items o none empty below) c listed has live) in
         let r = leave-other st c o provenance macros after.below.items (view_at st e.top c) not (subst (λ bs. Stands st c bs (view_at st e.top c)) below stands) in (
           subst (λ t. Stands st c after.below.items (view_at st t c)) (sym top) r.0,
           ap (λ bs. state_in st bs (view_at st e.top c) c) below ∙ (r.1 ∙ ap (λ t. state_in st after.below.items (view_at st t c) c) (sym top)),

@@ -1,14 +1,13 @@
 -- A list before it is settled, and what the loop leaves of it.
 use Rattle.std.proofs.Common.{◌≡◌, ℕ, ◌<◌, List, [], All, drop, length, map, slice_get, Some, sym, ap, subst, ◌∙◌}
-use Rattle.std.proofs.lemmas.List.Elements.{All-nil}
+use Rattle.std.proofs.lemmas.List.Elements.{All-nil, All-map}
 use Rattle.c11_macros.specs.Macros.{Macros}
 use Rattle.sc_base.specs.declared.fault.Fault.{Fault}
 use Rattle.sc_base.specs.declared.id.Cond.{Cond}
 use Rattle.sc_base.specs.declared.token.Token.{Token}
 use Rattle.sc_base.specs.Seen.{IsHeld}
 use Rattle.sc_expand.proofs.AlikeLemmas.{of-all, others-none}
-use Rattle.sc_expand.proofs.Ending.{bared}
-use Rattle.sc_expand.proofs.ExpandLemmas.{All-bared, items-bared, nothing-mapped}
+use Rattle.sc_expand.proofs.Ending.{bared, items-bared}
 use Rattle.sc_expand.proofs.SeenLemmas.{AreHeld-nil}
 use Rattle.sc_expand.specs.Alike.{IsAlikeCall, IsAlikeExpansion, IsAlikeFrame, no_others, others_at}
 use Rattle.sc_expand.specs.declared.expansion.Expansion.{Expansion}
@@ -16,13 +15,14 @@ use Rattle.sc_expand.specs.declared.frame.Enclosing.{Enclosing}
 use Rattle.sc_expand.specs.declared.settling.Settled.{Settled}
 use Rattle.sc_expand.specs.Machine.{IsHeldExpansion}
 use Rattle.sc_expand.specs.Running.{IsDone, IsUntouched, PutsOut}
-use Rattle.sc_expand.specs.Seen.{AreHeld, IsHeldCall, IsHeldEnclosing, IsHeldToken, Stores, failures_at, provenance_of, seen_at}
+use Rattle.sc_expand.specs.Seen.{AreHeld, IsHeldCall, IsHeldEnclosing, Stores, failures_at, provenance_of, seen_at}
 use Rattle.sc_expand.specs.Settling.{IsHeldSettled, IsSettled}
 use Rattle.sc_guarded.specs.Items.{items_at}
 use Rattle.sc_hoist.specs.Alike.{AreAlike, AreAlikeFaults, IsAlike}
 use Rattle.sc_model.specs.Sets.{IsCond, IsConfig, IsNever}
 use Rattle.sc_subst.specs.declared.hidden.Hidden.{Hidden}
 use Rattle.sc_subst.specs.Seen.{seen_hidden}
+use Rattle.sc_expand.proofs.TakingParts.{none-found}
 
 module _ (old : Stores) (e : Expansion) (list : List (Cond × Hidden)) (live : Cond) (fresh : IsUntouched old.sets e) (live_is : e.refusals.live ≡ live) (work : e.top.work ≡ list) where
   pub begun-held : (files : ℕ) → AreHeld old files list → IsCond old.sets live.0 → IsCond old.sets e.refusals.waiting.0 → IsHeldExpansion old files e
@@ -54,11 +54,8 @@ module _ (old : Stores) (e : Expansion) (list : List (Cond × Hidden)) (live : C
       out = subst (AreAlike old.sets c d) (sym fresh.out) (All-nil (λ (x : Cond × Hidden). IsAlike old.sets c d x.0));
       calls = subst (All (IsAlikeCall old.sets c d)) (sym fresh.calls) (All-nil (IsAlikeCall old.sets c d));
     });
-    below = λ n o is. absurd (none-at n (sym (ap (λ l. slice_get l n) fresh.below) ∙ is));
+    below = λ n o is. let none : slice_get [] n ≡ Some o = sym (ap (λ l. slice_get l n) fresh.below) ∙ is in absurd (cc);
   }
-    where
-      none-at : {o : Enclosing} (n : ℕ) → slice_get [] n ≡ Some o → ⊥
-      none-at n is = cc
 
   module _ (new : Stores) (after : Expansion) (s : Settled) (done_is : s.done ≡ map bared after.top.out) (rest_is : s.rest ≡ after.rest) (held_is : s.held ≡ after.refusals.faults) where
     pub settled-is : (files : List (List ℕ)) (macros : Macros) (c : List ℕ) → IsConfig old.sets.arities c → PutsOut old new e.refusals.live.0 e.top.out after.top.out
@@ -73,18 +70,18 @@ module _ (old : Stores) (e : Expansion) (list : List (Cond × Hidden)) (live : C
           let three = subst (λ r. IsDone (provenance_of files) macros (seen_at old list c) (seen_at new after.top.out c) (seen_at new r c) (failures_at new.sets after.refusals.faults.items c) (old.sets.has live.0 c)) (sym rest_is) two in
           subst (λ v. IsDone (provenance_of files) macros (seen_at old list c) (seen_at new after.top.out c) (seen_at new s.rest c) (failures_at new.sets v.items c) (old.sets.has live.0 c)) (sym held_is) three;
       none = λ lacks.
-          nothing-mapped (seen_hidden new.names new.hides) (items_at new.sets after.top.out c)
+          none-found (seen_hidden new.names new.hides) (items_at new.sets after.top.out c)
           (puts.apart c listed (ap (λ (k : Cond). old.sets.has k.0 c) live_is ∙ lacks) ∙ ap (λ l. seen_at old l c) fresh.out);
     }
 
     pub settled-held : (files : ℕ) → IsHeldExpansion new files after → PutsOut old new e.refusals.live.0 e.top.out after.top.out → IsHeldSettled new files s
     settled-held files held puts = record {
-      own = bare (λ (x : Cond × Token). IsCond new.sets x.0.0) (All-bared (λ (x : Cond × Token). IsCond new.sets x.0.0) (λ x. IsCond new.sets x.0.0) (λ x own. own) after.top.out held.top.out.own);
-      held = bare (λ (x : Cond × Token). IsHeld new.names x.1) (All-bared (λ (x : Cond × Token). IsHeld new.names x.1) (λ x. IsHeldToken new files x.1) (λ x own. own.held.token) after.top.out held.top.out.held);
-      placed = bare (λ (x : Cond × Token). x.1.place.file.0 < files) (All-bared (λ (x : Cond × Token). x.1.place.file.0 < files) (λ x. IsHeldToken new files x.1) (λ x own. own.file) after.top.out held.top.out.held);
+      own = bare (λ (x : Cond × Token). IsCond new.sets x.0.0) (All-map (λ (x : Cond × Token). IsCond new.sets x.0.0) bared after.top.out held.top.out.own);
+      held = bare (λ (x : Cond × Token). IsHeld new.names x.1) (All-map (λ (x : Cond × Token). IsHeld new.names x.1) bared after.top.out (λ k d h. (held.top.out.held k d h).held.token));
+      placed = bare (λ (x : Cond × Token). x.1.place.file.0 < files) (All-map (λ (x : Cond × Token). x.1.place.file.0 < files) bared after.top.out (λ k d h. (held.top.out.held k d h).file));
       some =
           let none : All (λ (x : Cond × Hidden). IsNever old.sets x.0.0 → ⊥) e.top.out = subst (All (λ (x : Cond × Hidden). IsNever old.sets x.0.0 → ⊥)) (sym fresh.out) (All-nil (λ (x : Cond × Hidden). IsNever old.sets x.0.0 → ⊥)) in
-          bare (λ (x : Cond × Token). IsNever new.sets x.0.0 → ⊥) (All-bared (λ (x : Cond × Token). IsNever new.sets x.0.0 → ⊥) (λ x. IsNever new.sets x.0.0 → ⊥) (λ x some. some) after.top.out (puts.some none));
+          bare (λ (x : Cond × Token). IsNever new.sets x.0.0 → ⊥) (All-map (λ (x : Cond × Token). IsNever new.sets x.0.0 → ⊥) bared after.top.out (puts.some none));
       rest = subst (AreHeld new files) (sym rest_is) held.rest;
       faults_own = subst (λ v. All (λ (f : Fault). IsCond new.sets f.cond.0) v.items) (sym held_is) held.refusals.own;
       faults_placed = subst (λ v. All (λ (f : Fault). f.place.file.0 < files) v.items) (sym held_is) held.refusals.placed;
@@ -97,5 +94,5 @@ module _ (old : Stores) (e : Expansion) (list : List (Cond × Hidden)) (live : C
     settled-alike c d alike rest =
         let out : AreAlike new.sets c d after.top.out = (subst (λ o. IsAlikeFrame new.sets c d o after.top) (others-none (length after.below.items)) alike.top).out in
         let done : AreAlike new.sets c d s.done =
-        subst (AreAlike new.sets c d) (sym done_is) (All-bared (λ (x : Cond × Token). IsAlike new.sets c d x.0) (λ x. IsAlike new.sets c d x.0) (λ x same. same) after.top.out out) in
+        subst (AreAlike new.sets c d) (sym done_is) (All-map (λ (x : Cond × Token). IsAlike new.sets c d x.0) bared after.top.out out) in
         (done, subst (AreAlike new.sets c d) (sym rest_is) rest, subst (λ v. AreAlikeFaults new.sets c d v.items) (sym held_is) alike.refusals.faults)

@@ -17,6 +17,7 @@ use Rattle.sc_hoist.specs.Places.{places_from}
 use Rattle.sc_model.specs.Bytes.{same_bytes}
 use Rattle.sc_model.specs.Sets.{Sets}
 use Rattle.sc_subst.specs.declared.hidden.Hidden.{Hidden}
+use Rattle.sc_expand.proofs.AlikeFilling.{items_at-alike}
 
 -- ---- spellings that begin alike
 
@@ -94,13 +95,6 @@ spelled-split s names e (suc n) (x ∷ xs) = by (s.has x.0.0 e) (spelled-split s
     by false is = is
 
 module _ (s : Sets) (c d : List ℕ) where
-  same-items : (items : List (Cond × Hidden)) → AreAlike s c d items → items_at s items c ≡ items_at s items d
-  same-items [] alike = refl
-  same-items (x ∷ xs) alike =
-      let P : Cond × Hidden → Type 0 = λ item. IsAlike s c d item.0 in
-      ap (λ (b : Bool). if b then x.1 ∷ items_at s xs c else items_at s xs c) (All-head P x xs alike)
-      ∙ ap (λ (l : List Hidden). if s.has x.0.0 d then x.1 ∷ l else l) (same-items xs (All-tail P x xs alike))
-
   -- as many places as there are items among the first
   pub places-front : (n k m : ℕ) (items : List (Cond × Hidden)) → AreAlike s c d (take n items) → k ≤ length (items_at s (take n items) c)
       → take k (places_from s m (map (λ (item : Cond × Token). item.0) (tokens_in items)) c) ≡ take k (places_from s m (map (λ (item : Cond × Token). item.0) (tokens_in items)) d)
@@ -123,7 +117,7 @@ module _ (s : Sets) (c d : List ℕ) where
   module _ (names : List (List ℕ)) where
     pub spelled-front : (n k : ℕ) (items : List (Cond × Hidden)) → AreAlike s c d (take n items) → k ≤ length (items_at s (take n items) c)
         → take k (spelled_at s names (tokens_in items) c) ≡ take k (spelled_at s names (tokens_in items) d)
-    spelled-front n k items alike few = at c refl ∙ sym (at d (sym (same-items (take n items) alike)))
+    spelled-front n k items alike few = at c refl ∙ sym (at d (sym (items_at-alike s c d (take n items) alike)))
       where
         at : (e : List ℕ) → items_at s (take n items) e ≡ items_at s (take n items) c → take k (spelled_at s names (tokens_in items) e) ≡ take k (map (spell names) (items_at s (take n items) c))
         at e same =
@@ -158,7 +152,7 @@ module _ (s : Sets) (c d : List ℕ) where
     )
 
     behind-alike : (span : ℕ) (list : List (Cond × Hidden)) → AreAlike s c d (take span list) → items_at s (drop 1 (take span list)) c ≡ items_at s (drop 1 (take span list)) d
-    behind-alike span list alike = same-items (drop 1 (take span list)) (All-drop (λ (x : Cond × Hidden). IsAlike s c d x.0) 1 (take span list) alike)
+    behind-alike span list alike = items_at-alike s c d (drop 1 (take span list)) (All-drop (λ (x : Cond × Hidden). IsAlike s c d x.0) 1 (take span list) alike)
 
     -- another token of the span follows the name
     pub span-bare : (span : ℕ) (list : List (Cond × Hidden)) (x : Hidden) (rest : List Hidden) → AreAlike s c d (take span list) → items_at s (drop 1 (take span list)) c ≡ x ∷ rest

@@ -1,10 +1,10 @@
 -- Taking the first token of a list: what the parts of it come to together.
 use Rattle.std.proofs.Common.{◌≡◌, ℕ, ◌<◌, get_or, zero, suc, ◌==◌, ◌||◌, ◌&&◌, not, Bool, true, false, List, [], ◌∷◌, All, map, length, refl, sym, ap, subst, ◌∙◌, arith, if◌then◌else◌}
-use Rattle.std.proofs.Math.Bool.{or-false}
+use Rattle.std.proofs.Math.Bool.{or-false, and-false, and-true}
 use Rattle.std.specs.List.{list_any}
 use Rattle.std.proofs.lemmas.Bool.{true≢false}
 use Rattle.c11_macros.specs.Hidden as model
-use Rattle.c11_macros.specs.Hidden.{Failure, HideSet, Provenance, failure_at, no_names, with_name}
+use Rattle.c11_macros.specs.Hidden.{Failure, HideSet, Provenance, with_name}
 use Rattle.c11_macros.specs.Macros.{Form}
 use Rattle.sc_model.specs.Token.{Item}
 use Rattle.c11_macros.specs.Substitution.{substituted}
@@ -59,10 +59,6 @@ same_test names (x ∷ xs) name apart held own =
     by false is true same =
         let one : x.0 ≡ name.0 = same_id names x.0 name.0 apart (held 0 x (omega arith)) own (same_bytes-true _ _ same) in
         absurd (grind (arith, nat_tests))
-
-pub or_true : (a b : Bool) → b ≡ true → (a || b) ≡ true
-or_true true b is = refl
-or_true false b is = is
 
 -- a set with one name more
 module _ (names : List (List ℕ)) (one made : List Name) (name : Name) (exact : (test : Name → Bool) → list_any test made ≡ (list_any test one || test name)) where
@@ -129,11 +125,7 @@ grown-hide {names} {mid} {later} {sets} {mid_sets} {later_sets} head hide held e
     hide_later hide.0 own f g ∙ (is ∙ λ i. with_name (one i) (text i))
 
 pub gone : (a b : Bool) → b ≡ true → (a && not b) ≡ false
-gone true true is = refl
-gone false true is = refl
-gone a false is = absurd (true≢false (sym is))
+gone a b is = ap (λ t. a && not t) is ∙ and-false a
 
 pub stays-there : (a b : Bool) → b ≡ false → (a && not b) ≡ a
-stays-there true false is = refl
-stays-there false false is = refl
-stays-there a true is = absurd (true≢false is)
+stays-there a b is = ap (λ t. a && not t) is ∙ and-true a

@@ -1,6 +1,6 @@
 -- A turn that takes the first token of a list, by what taking the token comes to.
 use Rattle.std.proofs.Common.{◌≡◌, ◌∙◌, ◌∷◌, ◌++◌, ◌&&◌, ℕ, Bool, true, false, List, [], All, Some, ap, refl, sym, subst, length, drop, map, append-nil, true≢false, if◌then◌else◌}
-use Rattle.std.proofs.lemmas.Bool.{and_parts}
+use Rattle.std.proofs.lemmas.Bool.{and_parts, and_right}
 use Rattle.std.proofs.lemmas.List.Elements.{All-drop, All-head}
 use Rattle.std.specs.Prelude.{slice_get}
 use Rattle.c11_macros.specs.Hidden.{Hidden, Provenance}
@@ -27,10 +27,6 @@ use Rattle.sc_subst.specs.declared.hidden.Hidden as declared
 use Rattle.sc_subst.specs.Seen.{seen_hidden}
 use Rattle.sc_table.specs.declared.table.MacroTable.{MacroTable}
 use Rattle.sc_table.specs.Table.{IsTable, macros_at}
-
-not_both : (a b : Bool) → b ≡ false → (a && b) ≡ false
-not_both true b is = is
-not_both false b is = refl
 
 -- ---- the first item of a list
 
@@ -210,7 +206,7 @@ module _ {s0 s1 : Sets} {n files : List (List ℕ)} {table : MacroTable} {was : 
         → seen_at last next.top.out c ≡ seen_at st0 was.top.out c
     refused-out {last} later held put c listed dead =
         let listed1 = IsConfig-Keeps known.keeps listed in
-        let same = told.others c listed1 (known.meets.at c listed1 ∙ not_both (s0.has item.0.0 c) (s0.has was.refusals.live.0 c) dead) ∙ untaken-Grows first-grew was known.held c listed in
+        let same = told.others c listed1 (known.meets.at c listed1 ∙ and_right (s0.has item.0.0 c) (s0.has was.refusals.live.0 c) dead) ∙ untaken-Grows first-grew was known.held c listed in
         put-seen later held told.taken.stays put c (IsConfig-Keeps grows.sets listed1)
         ∙ (ap (λ (s : Step). s.at.view.out ++ (if s.stays then seen_hidden last.names last.hides item.1 ∷ [] else [])) same ∙ append-nil (seen_at st0 was.top.out c))
 

@@ -1,5 +1,5 @@
 -- A list in which no name is defined, before the first turn and after the last.
-use Rattle.std.proofs.Common.{◌≡◌, ℕ, ◌++◌, ◌&&◌, not, Bool, true, false, List, [], ◌∷◌, All, append-nil, map, take, refl, sym, ap, subst, ◌∙◌, if◌then◌else◌}
+use Rattle.std.proofs.Common.{◌≡◌, ℕ, ◌++◌, ◌&&◌, not, true, false, List, [], ◌∷◌, All, append-nil, map, take, refl, sym, ap, subst, ◌∙◌, if◌then◌else◌}
 use Rattle.std.proofs.lemmas.List.Elements.{All-cons, All-head, All-nil}
 use Rattle.c11_macros.specs.Macros.{Macros}
 use Rattle.sc_base.specs.declared.id.Cond.{Cond}
@@ -8,6 +8,7 @@ use Rattle.sc_expand.proofs.Ending.{bared}
 use Rattle.sc_expand.proofs.UnchangedLemmas.{restricted-bared, restricted-Keeps}
 use Rattle.sc_expand.proofs.UnchangedTaking.{first-here, others-here}
 use Rattle.sc_expand.specs.declared.expansion.Expansion.{Expansion}
+use Rattle.sc_expand.specs.declared.settling.Settled.{Settled}
 use Rattle.sc_base.specs.declared.fault.Fault.{Fault}
 use Rattle.sc_expand.specs.Closing.{IsClosed, is_several, unclosed_at}
 use Rattle.sc_expand.specs.Seen.{failures_at, seen_failure}
@@ -17,6 +18,8 @@ use Rattle.sc_guarded.specs.declared.expanded.Expanded.{Expanded}
 use Rattle.sc_guarded.specs.Items.{faults_at, items_at}
 use Rattle.sc_model.specs.Sets.{Sets, IsCond, IsConfig, IsNever, Keeps}
 use Rattle.sc_subst.specs.declared.hidden.Hidden.{Hidden}
+use Rattle.sc_expand.proofs.AlikeLemmas.{lacks-first, none-told}
+use Rattle.sc_expand.proofs.TakingParts.{none-found}
 
 looks-in : (s : Sets) (names : List (List ℕ)) (macros : List ℕ → Macros) (live : ℕ) (xs : List (Cond × Hidden))
     → ((c : List ℕ) → IsConfig s.arities c → s.has live c ≡ true → All (IsUndefined names (macros c)) (items_at s (map bared xs) c))
@@ -36,45 +39,37 @@ looks-given s names macros e list live live_is tokens given =
 -- what some configuration has is there for one
 none-there : {A : Type 0} (s : Sets) (list : List (Cond × A)) → All (λ (x : Cond × A). IsNever s x.0.0 → ⊥) list → ((c : List ℕ) → IsConfig s.arities c → items_at s list c ≡ []) → list ≡ []
 none-there s [] some none = refl
-none-there {A} s (x ∷ xs) some none = absurd (All-head (λ (x : Cond × A). IsNever s x.0.0 → ⊥) x xs some (record { none = λ c listed. lacks (s.has x.0.0 c) (items_at s xs c) (none c listed) }))
-  where
-    lacks : (b : Bool) (l : List A) → (if b then x.1 ∷ l else l) ≡ [] → b ≡ false
-    lacks true l is = absurd (cc)
-    lacks false l is = refl
+none-there {A} s (x ∷ xs) some none = absurd (All-head (λ (x : Cond × A). IsNever s x.0.0 → ⊥) x xs some (record { none = λ c listed. lacks-first (s.has x.0.0 c) x.1 (items_at s xs c) (none c listed) }))
 
 no-fault-there : (s : Sets) (list : List Fault) → All (λ (f : Fault). IsNever s f.cond.0 → ⊥) list → ((c : List ℕ) → IsConfig s.arities c → failures_at s list c ≡ []) → list ≡ []
 no-fault-there s [] some none = refl
-no-fault-there s (x ∷ xs) some none = absurd (All-head (λ (f : Fault). IsNever s f.cond.0 → ⊥) x xs some (record { none = λ c listed. lacks (s.has x.cond.0 c) (faults_at s xs c) (none c listed) }))
-  where
-    lacks : (b : Bool) (l : List Fault) → map seen_failure (if b then x ∷ l else l) ≡ [] → b ≡ false
-    lacks true l is = absurd (cc)
-    lacks false l is = refl
+no-fault-there s (x ∷ xs) some none = absurd (All-head (λ (f : Fault). IsNever s f.cond.0 → ⊥) x xs some (record { none = λ c listed. lacks-first (s.has x.cond.0 c) x (faults_at s xs c) (none-found seen_failure (faults_at s (x ∷ xs) c) (none c listed)) }))
 
 -- where nothing waits, nothing more is put out and none is refused
 module _ (new last : Sets) (second : Keeps new last) (rest : List (Cond × Hidden)) (under : ℕ) (more : Expanded) (is_closed : IsClosed new last rest under more)
     (nothing : (c : List ℕ) → IsConfig new.arities c → items_at new rest c ≡ []) where
-  empty-if : {A : Type 0} (b : Bool) (f : Hidden → A) → (if b then map f [] else []) ≡ []
-  empty-if true f = refl
-  empty-if false f = refl
-
   pub none-more : more.list ≡ []
   none-more = none-there last more.list is_closed.some (λ c listed.
       let was = IsConfig-kept second listed in
-      is_closed.list c was ∙ ((λ i. if new.has under c && not (is_several (nothing c was i)) then map (λ (h : Hidden). h.token) (nothing c was i) else []) ∙ empty-if (new.has under c && true) (λ (h : Hidden). h.token)))
+      is_closed.list c was ∙ ((λ i. if new.has under c && not (is_several (nothing c was i)) then map (λ (h : Hidden). h.token) (nothing c was i) else []) ∙ sym (none-told (new.has under c && true))))
 
   pub no-more-faults : more.faults.items ≡ []
   no-more-faults = no-fault-there last more.faults.items is_closed.faults_some (λ c listed.
       let was = IsConfig-kept second listed in
-      is_closed.faults c was ∙ ((λ i. if new.has under c && is_several (nothing c was i) then map unclosed_at (take 1 (nothing c was i)) else []) ∙ empty-if (new.has under c && false) unclosed_at))
+      is_closed.faults c was ∙ ((λ i. if new.has under c && is_several (nothing c was i) then map unclosed_at (take 1 (nothing c was i)) else []) ∙ sym (none-told (new.has under c && false))))
 
-pub answer-unchanged : (new last : Sets) (second : Keeps new last) (e after : Expansion) (more answer : Expanded) (list : List (Cond × Token)) (live : Cond) → e.refusals.live ≡ live → map bared e.top.work ≡ list → e.refusals.faults.items ≡ []
-    → answer.list ≡ map bared after.top.out ++ more.list → answer.faults.items ≡ after.refusals.faults.items ++ more.faults.items → more.list ≡ [] → more.faults.items ≡ [] → IsCond new live.0 → All (λ (x : Cond × Token). IsCond new x.0.0) list
-    → IsRestricted new e.refusals.live.0 e.top.work after.top.out × (after.refusals ≡ e.refusals) → IsRestricted last live.0 list answer.list × (answer.faults.items ≡ [])
-answer-unchanged new last second e after more answer list live live_is tokens fresh list_is faults_are none no_faults live_own list_own ran =
-    let list_same : answer.list ≡ map bared after.top.out = list_is ∙ (ap (λ l. map bared after.top.out ++ l) none ∙ append-nil (map bared after.top.out)) in (
-      subst (IsRestricted last live.0 list) (sym list_same)
-          (restricted-Keeps second live.0 live_own list (map bared after.top.out) list_own
-          (subst (λ (k : Cond). IsRestricted new k.0 list (map bared after.top.out)) live_is
-          (subst (λ l. IsRestricted new e.refusals.live.0 l (map bared after.top.out)) tokens (restricted-bared new e.refusals.live.0 e.top.work after.top.out ran.0)))),
-      faults_are ∙ ((λ i. (ap (λ r. r.faults.items) ran.1 ∙ fresh) i ++ no_faults i)),
-    )
+pub settled-unchanged : (new : Sets) (e after : Expansion) (s : Settled) (list : List (Cond × Token)) (live : Cond) → e.refusals.live ≡ live → map bared e.top.work ≡ list → e.refusals.faults.items ≡ [] → s.done ≡ map bared after.top.out
+    → s.held ≡ after.refusals.faults → IsRestricted new e.refusals.live.0 e.top.work after.top.out × (after.refusals ≡ e.refusals) → IsRestricted new live.0 list s.done × (s.held.items ≡ [])
+settled-unchanged new e after s list live live_is tokens fresh done_is held_is ran = (
+  subst (IsRestricted new live.0 list) (sym done_is)
+      (subst (λ (k : Cond). IsRestricted new k.0 list (map bared after.top.out)) live_is
+      (subst (λ l. IsRestricted new e.refusals.live.0 l (map bared after.top.out)) tokens (restricted-bared new e.refusals.live.0 e.top.work after.top.out ran.0))),
+  ap (λ v. v.items) held_is ∙ (ap (λ r. r.faults.items) ran.1 ∙ fresh),
+)
+
+pub answer-unchanged : (new last : Sets) (second : Keeps new last) (s : Settled) (more answer : Expanded) (list : List (Cond × Token)) (live : Cond) → answer.list ≡ s.done ++ more.list → answer.faults.items ≡ s.held.items ++ more.faults.items
+    → more.list ≡ [] → more.faults.items ≡ [] → IsCond new live.0 → All (λ (x : Cond × Token). IsCond new x.0.0) list → IsRestricted new live.0 list s.done → s.held.items ≡ [] → IsRestricted last live.0 list answer.list × (answer.faults.items ≡ [])
+answer-unchanged new last second s more answer list live list_is faults_are none no_faults live_own list_own same fresh = (
+  subst (IsRestricted last live.0 list) (sym (list_is ∙ (ap (λ l. s.done ++ l) none ∙ append-nil s.done))) (restricted-Keeps second live.0 live_own list s.done list_own same),
+  faults_are ∙ (λ i. fresh i ++ no_faults i),
+)

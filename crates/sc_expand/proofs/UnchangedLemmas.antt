@@ -14,6 +14,7 @@ use Rattle.sc_model.proofs.SetLemmas.{IsConfig-Keeps, IsConfig-kept}
 use Rattle.sc_model.specs.Sets.{Sets, IsCond, IsConfig, Keeps}
 use Rattle.sc_subst.proofs.Later.{text_later}
 use Rattle.sc_subst.specs.declared.hidden.Hidden.{Hidden}
+use Rattle.std.proofs.lemmas.Bool.{and_parts, false_from_ne_true}
 
 abbrev Item : Type 0
 Item = Cond × Hidden
@@ -91,9 +92,7 @@ drops-nothing s e uncalled = record {
 
 -- neither has both conditions
 pub not-both : (a b : Bool) → (a ≡ true → b ≡ true → ⊥) → (a && b) ≡ false
-not-both true true not = absurd (not refl refl)
-not-both true false not = refl
-not-both false b not = refl
+not-both a b not = false_from_ne_true (a && b) (λ both. let p = and_parts a b both in not p.0 p.1)
 
 pub drops-first : (s : Sets) (e after : Expansion) (item : Item) → ((c : List ℕ) → IsConfig s.arities c → s.has item.0.0 c ≡ true → s.has e.refusals.live.0 c ≡ true → ⊥)
     → e.top.work ≡ item ∷ after.top.work → after.top.calls.items ≡ e.top.calls.items → after.top.out ≡ e.top.out → after.below ≡ e.below → IsUncalled e → Drops s e after

@@ -1,5 +1,5 @@
 -- What configurations that wait have left as the first token of a list is taken.
-use Rattle.std.proofs.Common.{◌≡◌, ◌<◌, ◌&&◌, ℕ, Bool, true, false, List, [], ◌∷◌, ◌++◌, All, append-nil, arith, drop, length, slice_get, Some, refl, sym, ap, subst, ◌∙◌, if◌then◌else◌}
+use Rattle.std.proofs.Common.{◌≡◌, ◌<◌, ◌&&◌, ℕ, Bool, true, false, List, [], ◌∷◌, ◌++◌, All, append-nil, drop, length, refl, sym, ap, subst, ◌∙◌, if◌then◌else◌}
 use Rattle.sc_base.specs.declared.id.Cond.{Cond}
 use Rattle.sc_expand.proofs.AlikeLemmas.{others-none}
 use Rattle.sc_expand.proofs.PuttingOut.{some-Keeps}
@@ -19,6 +19,7 @@ use Rattle.sc_model.proofs.SetLemmas.{IsConfig-Keeps, IsConfig-kept}
 use Rattle.sc_model.specs.Sets.{Denotes, IsCond, IsConfig, IsNever, Keeps, Sets}
 use Rattle.sc_subst.specs.declared.hidden.Hidden.{Hidden}
 use Rattle.sc_subst.specs.Seen.{seen_hidden}
+use Rattle.std.proofs.lemmas.Option.{slice_get_within}
 
 pub put-out-left : {old st new : Stores} {files : ℕ} → Grows old st → Grows st new → (was now next : Expansion) (taken : Taken) (token : Hidden) → IsHeldExpansion old files was → IsHeldExpansion st files now → IsHeldTaken st files taken
     → KeepsLists was now → HasPutOut st.sets new.sets taken token now next
@@ -81,11 +82,7 @@ put-out-alike {st} {new} later now next taken token held put {c} {d} p q alike e
 
 -- the first token is one of all that are looked at
 pub first-of-all : (e : Expansion) → IsFirstIn no_others e
-first-of-all e = record { is = λ item first none. subst (λ o. o.behind < length e.top.work) (sym (others-none (length e.below.items))) (some-first e.top.work item first) }
-  where
-    some-first : (list : List (Cond × Hidden)) (item : Cond × Hidden) → slice_get list 0 ≡ Some item → 0 < length list
-    some-first [] item is = absurd (cc)
-    some-first (x ∷ xs) item is = omega arith
+first-of-all e = record { is = λ item first none. subst (λ o. o.behind < length e.top.work) (sym (others-none (length e.below.items))) (slice_get_within e.top.work 0 item first) }
 
 -- where it stays, as it is seen once the token is put out
 pub stays-later : {s t : Sets} → Keeps s t → {stays : Cond} → IsCond s stays.0 → (item : Cond × Hidden) (was : Expansion) → IsCond s item.0.0 → IsCond s was.refusals.live.0

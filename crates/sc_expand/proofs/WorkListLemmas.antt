@@ -11,12 +11,7 @@ use Rattle.sc_hoist.specs.Alike.{AreAlike, IsAlike}
 use Rattle.std.proofs.Math.ListN.{get_or-map}
 use Rattle.sc_model.proofs.SetLemmas.{Keeps-trans, IsConfig-Keeps}
 use Rattle.sc_model.specs.Sets.{Sets, IsConfig, IsCond, Denotes, Keeps}
-
-and_true : (a b : Bool) → b ≡ true → (a && b) ≡ a
-and_true true true is = refl
-and_true false true is = refl
-and_true true false is = is
-and_true false false is = refl
+use Rattle.std.proofs.Math.Bool.{and-true}
 
 module _ {T : Type 0} where
   -- the first n items stand where they and the condition did
@@ -96,7 +91,7 @@ module _ {T : Type 0} where
             let g : Cond × T → Bool = λ item. first.has item.0.0 c in
             let here : IsConfig old.arities c = IsConfig-Keeps was.keeps listed in
             let each : map f after ≡ map g before = has_each-Keeps after c keeps was.own here ∙ was.same c listed has in
-            let value : new.has made.0 c ≡ get_or (map g before) n (g x) = met c listed ∙ (and_true (first.has x.0.0 c) (first.has by c) has ∙ (ap g x_before ∙ sym (get_or-map g before n x))) in
+            let value : new.has made.0 c ≡ get_or (map g before) n (g x) = met c listed ∙ (ap (λ b. first.has x.0.0 c && b) has ∙ (and-true (first.has x.0.0 c) ∙ (ap g x_before ∙ sym (get_or-map g before n x)))) in
             map-set f after n (made, x.1) ∙ ((λ i. set (each i) n (value i)) ∙ set-get_or (map g before) n (g x));
         alike = λ c d k z at_c at_d same low_k told_k.
             let A : Cond × T → Type 0 = λ y. IsAlike new c d y.0 in

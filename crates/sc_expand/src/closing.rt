@@ -83,6 +83,7 @@ fn tokens_under<C: Conditions>(
 }
 
 /// The faults of configurations whose first token is a name that begins a call without an end.
+#[tactic(auto, using(sc_model::proofs::SetLemmas::conditions))]
 fn unclosed<C: Conditions>(
     alloc: Global,
     conds: &mut C,

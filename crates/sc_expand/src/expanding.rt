@@ -6,7 +6,6 @@ ghost use Rattle.sc_expand.specs.Alike.{DefineTextAlike};
 ghost use Rattle.sc_hoist.specs.Alike.{AreAlike, AreAlikeFaults};
 ghost use Rattle.sc_expand.specs.Answers.{IsEmpty, IsExpanded, IsHeldAnswer};
 ghost use Rattle.sc_expand.specs.Footprints.{StopsAtName};
-ghost use Rattle.sc_expand.specs.Running.{IsUntouched};
 ghost use Rattle.sc_expand.specs.Unchanged.{DefinesNone, IsRestricted};
 ghost use Rattle.sc_guarded.specs.Items.{items_at};
 ghost use Rattle.sc_model.specs.Growth.{Extends};
@@ -16,10 +15,7 @@ ghost use Rattle.sc_subst.specs.Seen.{IsHeldHidden};
 ghost use Rattle.sc_table.specs.Table.{IsTable, macros_at};
 
 use crate::closing::close;
-use crate::expansion::Expansion;
-use crate::frame::Frame;
-use crate::refusals::Refusals;
-use crate::work_list::WorkList;
+use crate::settling::{Settled, settle};
 use sc_base::{Cond, Fault, Files, Names, OutOfMemory, Stop, Token};
 use sc_guarded::{Expanded, Guarded};
 use sc_presence::Conditions;
@@ -68,49 +64,14 @@ pub fn expand<C: Conditions>(
     ensures still { (c text : List ℕ) → IsConfig (C.sets conds.old).arities c → macros_at (C.sets conds.new) names.new table.now c text
         ≡ macros_at (C.sets conds.old) names.old table.now c text }
 {
-    let never = conds.never();
-    let mut expansion = started(alloc, list, live, never)?;
-    expansion.run(conds, table, names, files, limit)?;
-    let closed = close(alloc, conds, &expansion.rest, live)?;
-    let mut expanded = finished(expansion)?;
-    append_tokens(&mut expanded.list, &closed.list)?;
-    append_faults(&mut expanded.faults, &closed.faults)?;
+    let mut sets = HideSets::new(alloc)?;
+    let hidden = unhidden(alloc, &sets, list)?;
+    let settled = settle(
+        alloc, conds, table, &mut sets, &hidden, live, limit, names, files,
+    )?;
+    let closed = close(alloc, conds, &settled.rest, live)?;
+    let expanded = joined(settled, closed)?;
     Ok(expanded)
-}
-
-/// The expansion of a list before its first turn.
-fn started(
-    alloc: Global,
-    list: &Guarded<Token>,
-    live: Cond,
-    never: Cond,
-) -> Result<Expansion, OutOfMemory>
-    ensures untouched { IfOk result (λ e. (s : Sets) → IsNever s never.0 → IsUntouched s e) }
-    ensures waiting { IfOk result (λ e. e.refusals.waiting ≡ never) }
-    ensures live { IfOk result (λ e. e.refusals.live ≡ live) }
-    ensures tokens { IfOk result (λ e. map (λ item. (item.0, item.1.token)) e.top.work ≡ list.now) }
-    ensures unhidden { IfOk result (λ e. All (λ item. set_at e.sets item.1.hide.0 ≡ []) e.top.work) }
-    ensures held { IfOk result (λ e. (names : List (List ℕ)) → All (λ item. IsHeld names item.1) list.now
-        → All (λ item. IsHeldHidden names e.sets item.1) e.top.work) }
-{
-    let sets = HideSets::new(alloc)?;
-    let items = unhidden(alloc, &sets, list)?;
-    Ok(Expansion {
-        alloc,
-        sets,
-        refusals: Refusals {
-            live,
-            waiting: never,
-            faults: Vec::new(alloc),
-        },
-        rest: Guarded::new(alloc)?,
-        top: Frame {
-            work: WorkList::over(alloc, items),
-            out: Guarded::new(alloc)?,
-            calls: Vec::new(alloc),
-        },
-        below: Vec::new(alloc),
-    })
 }
 
 /// The tokens of a list, which hide no name.
@@ -118,34 +79,31 @@ fn unhidden(
     alloc: Global,
     sets: &HideSets,
     list: &Guarded<Token>,
-) -> Result<Vec<(Cond, Hidden)>, OutOfMemory>
-    ensures tokens { IfOk result (λ made. map (λ item. (item.0, item.1.token)) made.items ≡ list.now) }
-    ensures unhidden { IfOk result (λ made. All (λ item. set_at sets.now item.1.hide.0 ≡ []) made.items) }
+) -> Result<Guarded<Hidden>, OutOfMemory>
+    ensures tokens { IfOk result (λ made. map (λ item. (item.0, item.1.token)) made ≡ list.now) }
+    ensures unhidden { IfOk result (λ made. All (λ item. set_at sets.now item.1.hide.0 ≡ []) made) }
     ensures held { IfOk result (λ made. (names : List (List ℕ)) → All (λ item. IsHeld names item.1) list.now
-        → All (λ item. IsHeldHidden names sets.now item.1) made.items) }
+        → All (λ item. IsHeldHidden names sets.now item.1) made) }
 {
-    let mut items = Vec::new(alloc);
+    let mut items = Guarded::new(alloc)?;
     for index in 0..list.len() {
         let (cond, token) = list.item(index);
-        items.push((cond, Hidden::new(sets, *token)))?;
+        let hidden = Hidden::new(sets, *token);
+        items.push(cond, hidden)?;
     }
     Ok(items)
 }
 
-/// What the list has become, without hide sets.
-pub fn finished(expansion: Expansion) -> Result<Expanded, OutOfMemory>
-    ensures list { IfOk result (λ e. e.list ≡ map (λ item. (item.0, item.1.token)) expansion.top.out) }
-    ensures faults { IfOk result (λ e. e.faults ≡ expansion.refusals.faults) }
+/// What a list is settled to, and behind it what was closed at its end.
+fn joined(settled: Settled, closed: Expanded) -> Result<Expanded, OutOfMemory>
+    ensures list { IfOk result (λ e. e.list ≡ settled.done ++ closed.list) }
+    ensures faults { IfOk result (λ e. e.faults.items ≡ settled.held.items ++ closed.faults.items) }
 {
-    let mut list = Guarded::new(expansion.alloc)?;
-    for index in 0..expansion.top.out.len() {
-        let (cond, hidden) = expansion.top.out.item(index);
-        list.push(cond, hidden.token)?;
-    }
-    Ok(Expanded {
-        list,
-        faults: expansion.refusals.faults,
-    })
+    let mut list = settled.done;
+    let mut faults = settled.held;
+    append_tokens(&mut list, &closed.list)?;
+    append_faults(&mut faults, &closed.faults)?;
+    Ok(Expanded { list, faults })
 }
 
 /// Puts tokens behind others.

@@ -91,11 +91,14 @@ pub fn settling_commutes_with_maps_of_places<P, Q>()
 {}
 
 /// Where the tokens of a list, the names of their files and the macros' lists have no newline in
-/// them, what the list expands to has none.
+/// them, what the list expands to, or settles to and leaves, has none.
 pub fn expansion_stays_on_one_line<P>()
     ensures list { (provenance : Provenance P) → IsInPlace provenance → (macros : Macros) → AreOneLine macros → (list out : List (Hidden P))
         → All (IsOneLine provenance) list
         → Expands provenance macros list (Ok out) → All (IsOneLine provenance) out }
+    ensures settled { (provenance : Provenance P) → IsInPlace provenance → (macros : Macros) → AreOneLine macros → (list done rest : List (Hidden P))
+        → All (IsOneLine provenance) list
+        → Settles provenance macros list done rest → All (IsOneLine provenance) done × All (IsOneLine provenance) rest }
     ensures text { (macros : Macros) → AreOneLine macros → (text output : List Token) → All (λ t. has_no_newline t.spelling ≡ true) text
         → All (λ t. has_no_newline t.place.file ≡ true) text
         → TextExpands macros text (Ok output) → All (λ t. has_no_newline t.spelling ≡ true) output }

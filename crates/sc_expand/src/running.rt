@@ -106,7 +106,9 @@ impl Expansion {
         Ok(false)
     }
 
-    /// Drops the calls, first tokens and finished arguments of no configuration that goes on.
+    /// Drops the first tokens, calls and finished arguments of no configuration that goes on, first
+    /// tokens also where calls wait: those of a call that has left the list are such, and no list
+    /// is kept with them while the call's arguments expand.
     fn drop_refused<C: Conditions>(&mut self, conds: &mut C) -> Result<(), OutOfMemory>
         requires held { (names : List (List ℕ)) × ((files : ℕ) × IsHeldExpansion (stores (C.sets conds.old) names self.old.sets) files self.old) }
         ensures rested { OnOk result ((names : List (List ℕ))
@@ -117,25 +119,12 @@ impl Expansion {
         ensures keeps { Keeps (C.sets conds.old) (C.sets conds.new) }
         ensures sets { self.new.sets ≡ self.old.sets }
     {
-        self.drop_first_tokens(conds)?;
-        self.drop_turns(conds)?;
-        Ok(())
-    }
-
-    /// Drops the first tokens of no configuration that goes on, also where calls wait. The
-    /// tokens of a call that has left the list are such, and no list is kept with them while the
-    /// call's arguments expand.
-    fn drop_first_tokens<C: Conditions>(&mut self, conds: &mut C) -> Result<(), OutOfMemory>
-        requires held { (names : List (List ℕ)) × ((files : ℕ) × IsHeldExpansion (stores (C.sets conds.old) names self.old.sets) files self.old) }
-        ensures rested { OnOk result ((names : List (List ℕ))
-            → IsRested (stores (C.sets conds.old) names self.old.sets) (stores (C.sets conds.new) names self.new.sets) self.old self.new) }
-
-        // at every outcome
-        ensures keeps { Keeps (C.sets conds.old) (C.sets conds.new) }
-        ensures sets { self.new.sets ≡ self.old.sets }
-    {
         loop {
-            let dropped = self.drop_first_token(conds)?;
+            let first = self.drop_first_token(conds)?;
+            if first {
+                continue;
+            }
+            let dropped = self.drop_one(conds)?;
             if !dropped {
                 return Ok(());
             }
@@ -148,7 +137,8 @@ impl Expansion {
         requires held { (names : List (List ℕ)) × ((files : ℕ) × IsHeldExpansion (stores (C.sets conds.old) names self.old.sets) files self.old) }
         ensures rested { OnOk result ((names : List (List ℕ))
             → IsRested (stores (C.sets conds.old) names self.old.sets) (stores (C.sets conds.new) names self.new.sets) self.old self.new) }
-        ensures less { IfOk result (λ dropped. OnTrue dropped (length self.new.top.work < length self.old.top.work)) }
+        ensures less { IfOk result (λ dropped. OnTrue dropped (weight self.new < weight self.old)) }
+        ensures same { IfOk result (λ dropped. OnFalse dropped (self.new ≡ self.old)) }
 
         // at every outcome
         ensures keeps { Keeps (C.sets conds.old) (C.sets conds.new) }
@@ -168,25 +158,6 @@ impl Expansion {
             self.top.work.drop_alike();
         }
         Ok(true)
-    }
-
-    /// Drops what the next turns would take, as long as no configuration that goes on has it.
-    fn drop_turns<C: Conditions>(&mut self, conds: &mut C) -> Result<(), OutOfMemory>
-        requires held { (names : List (List ℕ)) × ((files : ℕ) × IsHeldExpansion (stores (C.sets conds.old) names self.old.sets) files self.old) }
-        ensures rested { OnOk result ((names : List (List ℕ))
-            → IsRested (stores (C.sets conds.old) names self.old.sets) (stores (C.sets conds.new) names self.new.sets) self.old self.new) }
-        ensures ready { OnOk result (IsReady (C.sets conds.new) self.new) }
-
-        // at every outcome
-        ensures keeps { Keeps (C.sets conds.old) (C.sets conds.new) }
-        ensures sets { self.new.sets ≡ self.old.sets }
-    {
-        loop {
-            let dropped = self.drop_one(conds)?;
-            if !dropped {
-                return Ok(());
-            }
-        }
     }
 
     /// Drops what the next turn would take, if no configuration that goes on has it, and says

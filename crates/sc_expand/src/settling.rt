@@ -1,17 +1,19 @@
 //! Macro expansion of a list as far as it does not depend on what follows the list.
-ghost use Rattle.std.specs.Prelude.{◌≡◌, ℕ, List, map, true, length, IfErr, IfOk};
+ghost use Rattle.std.specs.Prelude.{◌≡◌, ℕ, List, [], map, true, length, IfErr, IfOk};
 ghost use Rattle.sc_expand.specs.Alike.{DefineAlike};
 ghost use Rattle.sc_expand.specs.Footprints.{StopsAtName};
+ghost use Rattle.sc_expand.specs.Having.{tokens_in};
 ghost use Rattle.sc_expand.specs.Running.{IsUntouched};
 ghost use Rattle.sc_expand.specs.Seen.{AreHeld, provenance_of, seen_at, stores};
 ghost use Rattle.sc_expand.specs.Settling.{IsHeldSettled, IsSettled};
+ghost use Rattle.sc_expand.specs.Unchanged.{DefinesNone, IsRestricted};
+ghost use Rattle.sc_guarded.specs.Items.{items_at};
 ghost use Rattle.sc_hoist.specs.Alike.{AreAlike, AreAlikeFaults};
 ghost use Rattle.sc_model.specs.Growth.{Extends};
 ghost use Rattle.sc_model.specs.Sets.{IsConfig, IsCond, IsNever, Keeps, Sets};
 ghost use Rattle.sc_subst.specs.Seen.{seen_hidden};
 ghost use Rattle.sc_table.specs.Table.{IsTable, macros_at};
 
-use crate::expanding::finished;
 use crate::expansion::Expansion;
 use crate::frame::Frame;
 use crate::refusals::Refusals;
@@ -56,6 +58,9 @@ pub fn settle<C: Conditions>(
         → IsSettled (stores (C.sets conds.new) names.new sets.new) files.now s (macros_at (C.sets conds.old) names.old table.now c)
         (seen_at (stores (C.sets conds.old) names.old sets.old) list.now c) c ((C.sets conds.old).has live.0 c)) }
     ensures held { IfOk result (IsHeldSettled (stores (C.sets conds.new) names.new sets.new) (length files.now)) }
+    ensures unchanged { IfOk result (λ s. DefinesNone (C.sets conds.old) names.old (macros_at (C.sets conds.old) names.old table.now) live.0 (tokens_in list.now)
+        → IsRestricted (C.sets conds.new) live.0 (tokens_in list.now) s.done × ((s.held.items ≡ [])
+        × ((c : List ℕ) → IsConfig (C.sets conds.old).arities c → items_at (C.sets conds.new) s.rest c ≡ []))) }
     ensures stops { IfErr result (StopsAtName (seen_hidden names.old sets.old) (provenance_of files.now) (macros_at (C.sets conds.old) names.old table.now)
         (C.sets conds.old) live.0 list.now limit) }
     ensures alike { IfOk result (λ s. (c d : List ℕ) → IsConfig (C.sets conds.old).arities c → IsConfig (C.sets conds.old).arities d
@@ -128,13 +133,14 @@ fn parts_of(expansion: Expansion) -> Result<Settled, OutOfMemory>
     ensures rest { IfOk result (λ s. s.rest ≡ expansion.rest) }
     ensures held { IfOk result (λ s. s.held ≡ expansion.refusals.faults) }
 {
-    let mut expansion = expansion;
-    let none = Guarded::new(expansion.alloc)?;
-    let rest = mem::replace(&mut expansion.rest, none);
-    let expanded = finished(expansion)?;
+    let mut done = Guarded::new(expansion.alloc)?;
+    for index in 0..expansion.top.out.len() {
+        let (cond, hidden) = expansion.top.out.item(index);
+        done.push(cond, hidden.token)?;
+    }
     Ok(Settled {
-        done: expanded.list,
-        rest,
-        held: expanded.faults,
+        done,
+        rest: expansion.rest,
+        held: expansion.refusals.faults,
     })
 }

@@ -1,8 +1,9 @@
 use Rattle.std.proofs.Common.{◌<◌, ◌&&◌, ◌∙◌, [], not, ap, map, sym, take, if◌then◌else◌}
-use Rattle.sc_expand.proofs.ClosingLemmas.{given-bared, items-same, items-whole}
+use Rattle.sc_expand.proofs.AlikeFilling.{items_at-alike}
+use Rattle.std.proofs.lemmas.List.Elements.{All-map}
 use Rattle.sc_expand.proofs.RestrictedLists.{restricted-alike, restricted-all, restricted-items, restricted-own, restricted-some}
 use Rattle.sc_expand.specs.Closing.{is_several, unclosed_at}
-use Rattle.sc_expand.proofs.Ending.{bared}
+use Rattle.sc_expand.proofs.Ending.{bared, items-bared}
 use Rattle.sc_base.specs.Seen.{IsHeld}
 use Rattle.sc_base.specs.declared.id.Cond.{Cond}
 use Rattle.sc_base.specs.declared.token.Token.{Token}
@@ -13,26 +14,6 @@ use Rattle.sc_model.proofs.SetLemmas.{Denotes-Keeps, Denotes-self, IsConfig-Keep
 use Rattle.sc_model.specs.Sets.{Keeps}
 use Rattle.sc_subst.specs.declared.hidden.Hidden.{Hidden}
 use Rattle.sc_expand.proofs.closing.close.Goals as goal
-
-pub returns-in_err-alone-clause-keeps : goal.returns-in_err-alone-clause-keeps
-returns-in_err-alone-clause-keeps g c = Keeps-trans c.with_several.ensures.keeps (Keeps-trans c.negate.ensures.keeps c.apply_and.ensures.keeps)
-
-pub returns-in_err-called-clause-keeps : goal.returns-in_err-called-clause-keeps
-returns-in_err-called-clause-keeps g c = Keeps-trans c.with_several.ensures.keeps (Keeps-trans c.negate.ensures.keeps (Keeps-trans c.apply_and.ensures.keeps c.apply_and-2.ensures.keeps))
-
-pub returns-in_err-list-clause-keeps : goal.returns-in_err-list-clause-keeps
-returns-in_err-list-clause-keeps g c = Keeps-trans c.with_several.ensures.keeps (Keeps-trans c.negate.ensures.keeps (Keeps-trans c.apply_and.ensures.keeps (Keeps-trans c.apply_and-2.ensures.keeps c.tokens_under.ensures.keeps)))
-
-pub unclosed-requires-clause-own : goal.unclosed-requires-clause-own
-unclosed-requires-clause-own g c =
-    let keeps = Keeps-trans c.with_several.ensures.keeps (Keeps-trans c.negate.ensures.keeps (Keeps-trans c.apply_and.ensures.keeps (Keeps-trans c.apply_and-2.ensures.keeps c.tokens_under.ensures.keeps))) in
-    λ k d h. keeps.own _ (c.requires.own k d h)
-
-pub returns-in_err-faults-clause-keeps : goal.returns-in_err-faults-clause-keeps
-returns-in_err-faults-clause-keeps g c = Keeps-trans c.with_several.ensures.keeps (Keeps-trans c.negate.ensures.keeps (Keeps-trans c.apply_and.ensures.keeps (Keeps-trans c.apply_and-2.ensures.keeps (Keeps-trans c.tokens_under.ensures.keeps c.unclosed.ensures.keeps))))
-
-pub returns-clause-keeps : goal.returns-clause-keeps
-returns-clause-keeps g c = Keeps-trans c.with_several.ensures.keeps (Keeps-trans c.negate.ensures.keeps (Keeps-trans c.apply_and.ensures.keeps (Keeps-trans c.apply_and-2.ensures.keeps (Keeps-trans c.tokens_under.ensures.keeps c.unclosed.ensures.keeps))))
 
 pub returns-clause-closed : goal.returns-clause-closed
 returns-clause-closed g c =
@@ -60,7 +41,7 @@ returns-clause-closed g c =
           items_at-Keeps list x later own there
           ∙ (restricted-items mid c.in_ok-alone.alone.0 restricted x there
           ∙ (ap (λ b. if b then items_at mid (map bared rest) x else []) (alone.at x there)
-          ∙ ap (λ l. if s.has c.args.under.0 x && not (is_several (items_at s rest x)) then l else []) (items-same mid rest x ∙ ap (map (λ (h : Hidden). h.token)) (items_at-Keeps rest x keeps c.requires.own listed))));
+          ∙ ap (λ l. if s.has c.args.under.0 x && not (is_several (items_at s rest x)) then l else []) (items-bared mid rest x ∙ ap (map (λ (h : Hidden). h.token)) (items_at-Keeps rest x keeps c.requires.own listed))));
       faults = λ x listed.
           let there = IsConfig-Keeps keeps listed in
           faults.faults x there
@@ -68,18 +49,38 @@ returns-clause-closed g c =
           ∙ ap (λ l. if s.has c.args.under.0 x && is_several (items_at s rest x) then map unclosed_at (take 1 l) else []) (items_at-Keeps rest x keeps c.requires.own listed));
       own = λ k d h. later.own _ (own k d h);
       some = λ k d h never. restricted-some mid c.in_ok-alone.alone.0 restricted k d h (record { none = λ x listed. sym (later.at _ x (own k d h) listed) ∙ never.none x (IsConfig-Keeps later listed) });
-      held = λ names all. restricted-all mid c.in_ok-alone.alone.0 (IsHeld names) restricted (given-bared (λ (x : Cond × Token). IsHeld names x.1) rest all);
-      placed = λ files all. restricted-all mid c.in_ok-alone.alone.0 (λ t. t.place.file.0 < files) restricted (given-bared (λ (x : Cond × Token). x.1.place.file.0 < files) rest all);
+      held = λ names all. restricted-all mid c.in_ok-alone.alone.0 (IsHeld names) restricted (All-map (λ (x : Cond × Token). IsHeld names x.1) bared rest all);
+      placed = λ files all. restricted-all mid c.in_ok-alone.alone.0 (λ t. t.place.file.0 < files) restricted (All-map (λ (x : Cond × Token). x.1.place.file.0 < files) bared rest all);
       faults_placed = faults.placed;
       faults_some = faults.some;
       faults_own = faults.own;
       alike = λ x y p q same all.
           let here = IsConfig-Keeps keeps p in
           let there = IsConfig-Keeps keeps q in
-          let items = items-whole s x y rest all in
+          let items = items_at-alike s x y rest all in
           let both : AreAlike mid x y rest = λ k d h. keeps.at _ x (c.requires.own k d h) p ∙ (all k d h ∙ sym (keeps.at _ y (c.requires.own k d h) q)) in
           let first = alone.at x here ∙ ((λ i. same i && not (is_several (items i))) ∙ sym (alone.at y there)) in
           let second = called.at x here ∙ ((λ i. same i && is_several (items i)) ∙ sym (called.at y there)) in
-          let tokens = restricted-alike mid c.in_ok-alone.alone.0 restricted x y here there first (given-bared (λ (x2 : Cond × Token). IsAlike mid x y x2.0) rest both) in
+          let tokens = restricted-alike mid c.in_ok-alone.alone.0 restricted x y here there first (All-map (λ (x2 : Cond × Token). IsAlike mid x y x2.0) bared rest both) in
           (λ k d h. later.at _ x (own k d h) here ∙ (tokens k d h ∙ sym (later.at _ y (own k d h) there)), faults.alike x y here there second both);
     }
+
+pub returns-in_err-alone-clause-keeps : goal.returns-in_err-alone-clause-keeps
+returns-in_err-alone-clause-keeps g c = Keeps-trans c.with_several.ensures.keeps (Keeps-trans c.negate.ensures.keeps c.apply_and.ensures.keeps)
+
+pub returns-in_err-called-clause-keeps : goal.returns-in_err-called-clause-keeps
+returns-in_err-called-clause-keeps g c = Keeps-trans c.with_several.ensures.keeps (Keeps-trans c.negate.ensures.keeps (Keeps-trans c.apply_and.ensures.keeps c.apply_and-2.ensures.keeps))
+
+pub returns-in_err-list-clause-keeps : goal.returns-in_err-list-clause-keeps
+returns-in_err-list-clause-keeps g c = Keeps-trans c.with_several.ensures.keeps (Keeps-trans c.negate.ensures.keeps (Keeps-trans c.apply_and.ensures.keeps (Keeps-trans c.apply_and-2.ensures.keeps c.tokens_under.ensures.keeps)))
+
+pub unclosed-requires-clause-own : goal.unclosed-requires-clause-own
+unclosed-requires-clause-own g c =
+    let keeps = Keeps-trans c.with_several.ensures.keeps (Keeps-trans c.negate.ensures.keeps (Keeps-trans c.apply_and.ensures.keeps (Keeps-trans c.apply_and-2.ensures.keeps c.tokens_under.ensures.keeps))) in
+    λ k d h. keeps.own _ (c.requires.own k d h)
+
+pub returns-in_err-faults-clause-keeps : goal.returns-in_err-faults-clause-keeps
+returns-in_err-faults-clause-keeps g c = Keeps-trans c.with_several.ensures.keeps (Keeps-trans c.negate.ensures.keeps (Keeps-trans c.apply_and.ensures.keeps (Keeps-trans c.apply_and-2.ensures.keeps (Keeps-trans c.tokens_under.ensures.keeps c.unclosed.ensures.keeps))))
+
+pub returns-clause-keeps : goal.returns-clause-keeps
+returns-clause-keeps g c = Keeps-trans c.with_several.ensures.keeps (Keeps-trans c.negate.ensures.keeps (Keeps-trans c.apply_and.ensures.keeps (Keeps-trans c.apply_and-2.ensures.keeps (Keeps-trans c.tokens_under.ensures.keeps c.unclosed.ensures.keeps))))

@@ -1,6 +1,6 @@
 use Rattle.std.proofs.Common.{◌≡◌, true≢false, [], ◌++◌, ◌∷◌, ◌+◌, ◌∙◌, List, map, take, ap, sym, subst}
 use Rattle.std.proofs.lemmas.List.{map-append}
-use Rattle.sc_expand.proofs.ClosingLemmas.{Adds, added, at-index, is-true, left_out, next-item, own-bared, restricted-next, true-is}
+use Rattle.sc_expand.proofs.ClosingLemmas.{Adds, added, at-index, left_out, next-item, own-bared, restricted-next}
 use Rattle.sc_expand.specs.Unchanged.{IsRestricted, empty}
 use Rattle.sc_expand.proofs.Ending.{bared}
 use Rattle.sc_base.specs.declared.id.Cond.{Cond}
@@ -42,7 +42,7 @@ loop-index-preserved g c =
     record {
       keeps = Keeps-trans was.keeps c.apply_and.ensures.keeps;
       restricted = elim c.if-not-is_never.branch [
-        | then-not-is_never+in_ok-push w ↦ next _ (added (λ never. true≢false (sym (true-is c.is_never.result (c.is_never.ensures.1 never)) ∙ w.if-not-is_never.true)) (w.tokens-is ∙ w.in_ok-push.ensures.ok))
-        | else-not-is_never w ↦ next _ (left_out (c.is_never.ensures.0 (is-true c.is_never.result w.if-not-is_never.false)) w.tokens-is)
+        | then-not-is_never+in_ok-push w ↦ next _ (added (λ never. true≢false (sym (c.is_never.ensures.1 never) ∙ w.if-not-is_never.true)) (w.tokens-is ∙ w.in_ok-push.ensures.ok))
+        | else-not-is_never w ↦ next _ (left_out (c.is_never.ensures.0 w.if-not-is_never.false) w.tokens-is)
       ];
     }

@@ -1,7 +1,7 @@
 use Rattle.std.proofs.Common.{◌<◌, ◌+◌, ◌&&◌, ◌∙◌, [], not, true, true≢false, All, ap, arith, map, sym, subst, take, take_all, if◌then◌else◌}
 use Rattle.std.proofs.lemmas.List.Elements.{All-nil}
 use Rattle.std.proofs.Math.Bool.{and-true}
-use Rattle.sc_expand.proofs.ClosingLemmas.{Adds, Denotes-as, added, all-next, any-push, at-index, faults-next, is-true, is_any, left-step, left_out, met-alike, next-items, none-told, true-is}
+use Rattle.sc_expand.proofs.ClosingLemmas.{Adds, Denotes-as, added, all-next, any-push, at-index, faults-next, is_any, left-step, left_out, met-alike, next-items}
 use Rattle.sc_expand.specs.Closing.{unclosed_at}
 use Rattle.sc_expand.specs.Seen.{failures_at}
 use Rattle.sc_base.specs.declared.fault.Fault.{Fault}
@@ -14,6 +14,7 @@ use Rattle.sc_model.specs.declared.cause.Cause.TheVariants.{UnterminatedCall}
 use Rattle.sc_subst.specs.declared.hidden.Hidden.{Hidden}
 use Rattle.sc_expand.proofs.closing.unclosed.Goals as goal
 use Rattle.sc_expand.proofs.closing.unclosed.Goals.{then-not-is_never+in_ok-push, else-not-is_never}
+use Rattle.sc_expand.proofs.AlikeLemmas.{none-told}
 
 pub loop-index-init : goal.loop-index-init
 loop-index-init g c =
@@ -34,32 +35,14 @@ apply_and-requires-clause-a_own g c =
     let first = g.C.Conditions.sets c.args.conds.now in
     c.loop-index.invariant.keeps.own _ (at-index (λ (x : Cond × Hidden). IsCond first x.0.0) c.args.list.now c.loop-index.index (c.item.result.0, c.item.result.1.now) c.item.ensures c.requires.own)
 
-pub apply_and-requires-clause-b_own : goal.apply_and-requires-clause-b_own
-apply_and-requires-clause-b_own g c = c.loop-index.invariant.left.own
-
-pub returns-in_err-first-clause-keeps : goal.returns-in_err-first-clause-keeps
-returns-in_err-first-clause-keeps g c = Keeps-trans c.loop-index.invariant.keeps c.apply_and.ensures.keeps
-
 pub negate-requires : goal.negate-requires
 negate-requires g c =
     let first = g.C.Conditions.sets c.args.conds.now in
     (Keeps-trans c.loop-index.invariant.keeps c.apply_and.ensures.keeps).own _
     (at-index (λ (x : Cond × Hidden). IsCond first x.0.0) c.args.list.now c.loop-index.index (c.item.result.0, c.item.result.1.now) c.item.ensures c.requires.own)
 
-pub returns-in_err-others-clause-keeps : goal.returns-in_err-others-clause-keeps
-returns-in_err-others-clause-keeps g c = Keeps-trans c.loop-index.invariant.keeps (Keeps-trans c.apply_and.ensures.keeps c.negate.ensures.keeps)
-
-pub apply_and-requires-in-loop-index-clause-a_own : goal.apply_and-requires-in-loop-index-clause-a_own
-apply_and-requires-in-loop-index-clause-a_own g c = (Keeps-trans c.apply_and.ensures.keeps c.negate.ensures.keeps).own _ c.loop-index.invariant.left.own
-
-pub returns-in_err-left-clause-keeps : goal.returns-in_err-left-clause-keeps
-returns-in_err-left-clause-keeps g c = Keeps-trans c.loop-index.invariant.keeps (Keeps-trans c.apply_and.ensures.keeps (Keeps-trans c.negate.ensures.keeps c.apply_and-in-loop-index.ensures.keeps))
-
 pub is_never-requires : goal.is_never-requires
 is_never-requires g c = (Keeps-trans c.negate.ensures.keeps c.apply_and-in-loop-index.ensures.keeps).own _ c.in_ok-first.ensures.own
-
-pub returns-in_err-push-clause-keeps : goal.returns-in_err-push-clause-keeps
-returns-in_err-push-clause-keeps g c = Keeps-trans c.loop-index.invariant.keeps (Keeps-trans c.apply_and.ensures.keeps (Keeps-trans c.negate.ensures.keeps c.apply_and-in-loop-index.ensures.keeps))
 
 pub loop-index-preserved : goal.loop-index-preserved
 loop-index-preserved g c =
@@ -80,8 +63,8 @@ loop-index-preserved g c =
     let fault : Fault = record { cond = met; cause = UnterminatedCall; place = item.1.token.place } in
     let adds : Adds now met.0 fault c.loop-index.faults.items c.if-not-is_never.faults.items =
     elim c.if-not-is_never.branch [
-      | then-not-is_never+in_ok-push w ↦ added (λ never. true≢false (sym (true-is c.is_never.result (c.is_never.ensures.1 never)) ∙ w.if-not-is_never.true)) (ap (λ v. v.items) w.faults-is ∙ w.in_ok-push.ensures.items)
-      | else-not-is_never w ↦ left_out (c.is_never.ensures.0 (is-true c.is_never.result w.if-not-is_never.false)) (ap (λ v. v.items) w.faults-is)
+      | then-not-is_never+in_ok-push w ↦ added (λ never. true≢false (sym (c.is_never.ensures.1 never) ∙ w.if-not-is_never.true)) (ap (λ v. v.items) w.faults-is ∙ w.in_ok-push.ensures.items)
+      | else-not-is_never w ↦ left_out (c.is_never.ensures.0 w.if-not-is_never.false) (ap (λ v. v.items) w.faults-is)
     ] in
     record {
       keeps = Keeps-trans was.keeps keeps;
@@ -109,17 +92,17 @@ returns-clause-faults g c = λ x listed.
     c.loop-index.invariant.faults x listed
     ∙ ap (λ l. if first.has c.args.cond.0 x then map unclosed_at (take 1 (items_at first l x)) else []) (take_all c.loop-index.index c.args.list.now (omega (arith, c.loop-index-test.false, c.len-index-end.ensures)))
 
-pub returns-clause-alike : goal.returns-clause-alike
-returns-clause-alike g c = c.loop-index.invariant.alike
+pub returns-in_err-first-clause-keeps : goal.returns-in_err-first-clause-keeps
+returns-in_err-first-clause-keeps g c = Keeps-trans c.loop-index.invariant.keeps c.apply_and.ensures.keeps
 
-pub returns-clause-own : goal.returns-clause-own
-returns-clause-own g c = c.loop-index.invariant.own
+pub returns-in_err-others-clause-keeps : goal.returns-in_err-others-clause-keeps
+returns-in_err-others-clause-keeps g c = Keeps-trans c.loop-index.invariant.keeps (Keeps-trans c.apply_and.ensures.keeps c.negate.ensures.keeps)
 
-pub returns-clause-some : goal.returns-clause-some
-returns-clause-some g c = c.loop-index.invariant.some
+pub apply_and-requires-in-loop-index-clause-a_own : goal.apply_and-requires-in-loop-index-clause-a_own
+apply_and-requires-in-loop-index-clause-a_own g c = (Keeps-trans c.apply_and.ensures.keeps c.negate.ensures.keeps).own _ c.loop-index.invariant.left.own
 
-pub returns-clause-placed : goal.returns-clause-placed
-returns-clause-placed g c = c.loop-index.invariant.placed
+pub returns-in_err-left-clause-keeps : goal.returns-in_err-left-clause-keeps
+returns-in_err-left-clause-keeps g c = Keeps-trans c.loop-index.invariant.keeps (Keeps-trans c.apply_and.ensures.keeps (Keeps-trans c.negate.ensures.keeps c.apply_and-in-loop-index.ensures.keeps))
 
-pub returns-clause-keeps : goal.returns-clause-keeps
-returns-clause-keeps g c = c.loop-index.invariant.keeps
+pub returns-in_err-push-clause-keeps : goal.returns-in_err-push-clause-keeps
+returns-in_err-push-clause-keeps g c = Keeps-trans c.loop-index.invariant.keeps (Keeps-trans c.apply_and.ensures.keeps (Keeps-trans c.negate.ensures.keeps c.apply_and-in-loop-index.ensures.keeps))

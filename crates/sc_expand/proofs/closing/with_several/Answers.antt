@@ -13,17 +13,11 @@ apply_and-requires-clause-a_own g c =
     let first = g.C.Conditions.sets c.args.conds.now in
     c.loop-index.invariant.keeps.own _ (at-index (λ (x : Cond × Hidden). IsCond first x.0.0) c.args.list.now c.loop-index.index (c.item.result.0, c.item.result.1.now) c.item.ensures c.requires.own)
 
-pub returns-in_err-several-clause-keeps : goal.returns-in_err-several-clause-keeps
-returns-in_err-several-clause-keeps g c = Keeps-trans c.loop-index.invariant.keeps (Keeps-trans c.apply_and.ensures.keeps c.apply_or.ensures.keeps)
-
 pub apply_or-requires-in-loop-index-clause-b_own : goal.apply_or-requires-in-loop-index-clause-b_own
 apply_or-requires-in-loop-index-clause-b_own g c =
     let first = g.C.Conditions.sets c.args.conds.now in
     (Keeps-trans c.loop-index.invariant.keeps (Keeps-trans c.apply_and.ensures.keeps c.apply_or.ensures.keeps)).own _
     (at-index (λ (x : Cond × Hidden). IsCond first x.0.0) c.args.list.now c.loop-index.index (c.item.result.0, c.item.result.1.now) c.item.ensures c.requires.own)
-
-pub returns-in_err-some-clause-keeps : goal.returns-in_err-some-clause-keeps
-returns-in_err-some-clause-keeps g c = Keeps-trans c.loop-index.invariant.keeps (Keeps-trans c.apply_and.ensures.keeps (Keeps-trans c.apply_or.ensures.keeps c.apply_or-in-loop-index.ensures.keeps))
 
 pub loop-index-preserved : goal.loop-index-preserved
 loop-index-preserved g c =
@@ -45,3 +39,9 @@ loop-index-preserved g c =
       several = Denotes-as (λ x. is_several (items_at first (take (i + 1) list) x)) (Denotes-Keeps c.apply_or-in-loop-index.ensures.keeps several)
           (λ x listed. sym (ap is_several (next-items first list i item x c.item.ensures) ∙ several-push (items_at first (take i list) x) (first.has item.0.0 x) item.1));
     }
+
+pub returns-in_err-several-clause-keeps : goal.returns-in_err-several-clause-keeps
+returns-in_err-several-clause-keeps g c = Keeps-trans c.loop-index.invariant.keeps (Keeps-trans c.apply_and.ensures.keeps c.apply_or.ensures.keeps)
+
+pub returns-in_err-some-clause-keeps : goal.returns-in_err-some-clause-keeps
+returns-in_err-some-clause-keeps g c = Keeps-trans c.loop-index.invariant.keeps (Keeps-trans c.apply_and.ensures.keeps (Keeps-trans c.apply_or.ensures.keeps c.apply_or-in-loop-index.ensures.keeps))

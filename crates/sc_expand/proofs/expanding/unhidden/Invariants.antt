@@ -9,7 +9,7 @@ use Rattle.sc_expand.proofs.expanding.unhidden.Given as goal
 
 abbrev pub invariant-loop-index : goal.invariant-loop-index
 invariant-loop-index l = record {
-  tokens : map (λ (item : Cond × Hidden). (item.0, item.1.token)) l.items.items ≡ take l.index l.list;
-  unhidden : All (λ (item : Cond × Hidden). set_at l.sets item.1.hide.0 ≡ []) l.items.items;
-  held : (names : List (List ℕ)) → All (λ (item : Cond × Token). IsHeld names item.1) l.list → All (λ (item : Cond × Hidden). IsHeldHidden names l.sets item.1) l.items.items;
+  tokens : map (λ (item : Cond × Hidden). (item.0, item.1.token)) l.items ≡ take l.index l.list;
+  unhidden : All (λ (item : Cond × Hidden). set_at l.sets item.1.hide.0 ≡ []) l.items;
+  held : (names : List (List ℕ)) → All (λ (item : Cond × Token). IsHeld names item.1) l.list → All (λ (item : Cond × Hidden). IsHeldHidden names l.sets item.1) l.items;
 }

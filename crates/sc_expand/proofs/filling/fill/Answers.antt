@@ -35,16 +35,10 @@ put_parts-requires-clause-expanded_own g c =
     let held = subst (All (AreHeld st c.requires.held.0)) (sym c.deref.ensures.value) c.requires.held.1.1.expanded in
     λ k d h. (held k d h).own
 
-pub returns-in_err-put_list-clause-keeps : goal.returns-in_err-put_list-clause-keeps
-returns-in_err-put_list-clause-keeps g c = Keeps-trans c.put_parts.ensures.keeps c.put_list.ensures.keeps
-
 pub hide_in-requires-clause-held : goal.hide_in-requires-clause-held
 hide_in-requires-clause-held g c =
     let spaced = laid-held c.args.parts.now c.in_ok-filled.ensures.adds c.in_ok-put_list.ensures.adds c.in_ok-spaced.ensures c.deref.ensures.value c.requires.held.1.0 c.requires.held.1.1.expanded in
     λ k d h. (spaced k d h).held
-
-pub returns-in_err-made-clause-keeps : goal.returns-in_err-made-clause-keeps
-returns-in_err-made-clause-keeps g c = Keeps-trans c.put_parts.ensures.keeps c.put_list.ensures.keeps
 
 pub returns : goal.returns
 returns g c =
@@ -94,3 +88,9 @@ returns g c =
       keeps = Keeps-trans keeps c.put_list.ensures.keeps;
       sets = c.hide_in.ensures.sets;
     }
+
+pub returns-in_err-put_list-clause-keeps : goal.returns-in_err-put_list-clause-keeps
+returns-in_err-put_list-clause-keeps g c = Keeps-trans c.put_parts.ensures.keeps c.put_list.ensures.keeps
+
+pub returns-in_err-made-clause-keeps : goal.returns-in_err-made-clause-keeps
+returns-in_err-made-clause-keeps g c = Keeps-trans c.put_parts.ensures.keeps c.put_list.ensures.keeps

@@ -19,21 +19,6 @@ apply_and-requires-clause-a_own g c =
     let is = get_or_from_slice_get c.args.list.now c.loop-index.index x x c.item.ensures in
     c.loop-index.invariant.keeps.own _ (subst P is (c.requires.list_own c.loop-index.index x (slice_get_within c.args.list.now c.loop-index.index x c.item.ensures)))
 
-pub apply_and-requires-clause-b_own : goal.apply_and-requires-clause-b_own
-apply_and-requires-clause-b_own g c = c.loop-index.invariant.keeps.own _ c.requires.cond_own
-
-pub returns-in_err-met-clause-keeps : goal.returns-in_err-met-clause-keeps
-returns-in_err-met-clause-keeps g c = Keeps-trans c.loop-index.invariant.keeps c.apply_and.ensures.keeps
-
-pub put_spaced-requires-clause-own : goal.put_spaced-requires-clause-own
-put_spaced-requires-clause-own g c = λ k d h. c.apply_and.ensures.keeps.own _ (c.loop-index.invariant.adds.own k d h)
-
-pub put_spaced-requires-clause-left_own : goal.put_spaced-requires-clause-left_own
-put_spaced-requires-clause-left_own g c = c.apply_and.ensures.keeps.own _ c.loop-index.invariant.first_left.own
-
-pub returns-in_err-left-clause-keeps : goal.returns-in_err-left-clause-keeps
-returns-in_err-left-clause-keeps g c = Keeps-trans c.loop-index.invariant.keeps (Keeps-trans c.apply_and.ensures.keeps c.put_spaced.ensures.keeps)
-
 pub loop-index-preserved : goal.loop-index-preserved
 loop-index-preserved g c =
     let first = g.C.Conditions.sets c.args.conds.now in
@@ -53,5 +38,8 @@ returns-clause-adds g c =
     adds-as c.loop-index.invariant.adds (λ x listed. ap (λ l. first_spaced_if (first.has c.args.cond.0 x) c.args.space (items_at first l x)) (take_all c.loop-index.index c.args.list.now end))
     (λ st files held. held) (λ x y p q alike. alike)
 
-pub returns-clause-keeps : goal.returns-clause-keeps
-returns-clause-keeps g c = c.loop-index.invariant.keeps
+pub returns-in_err-left-clause-keeps : goal.returns-in_err-left-clause-keeps
+returns-in_err-left-clause-keeps g c = Keeps-trans c.loop-index.invariant.keeps (Keeps-trans c.apply_and.ensures.keeps c.put_spaced.ensures.keeps)
+
+pub returns-in_err-met-clause-keeps : goal.returns-in_err-met-clause-keeps
+returns-in_err-met-clause-keeps g c = Keeps-trans c.loop-index.invariant.keeps c.apply_and.ensures.keeps

@@ -15,18 +15,6 @@ loop-part-init g c =
     let made = subst (λ l. Adds s s [] l (λ x. []) (λ st files. Unit {0}) (λ x y. Unit {0})) (sym c.in_ok-made.ensures) none in
     record { keeps = Keeps-refl s; adds = adds-as made (λ x listed. refl) (λ st files held. tt) (λ x y p q alike. tt) }
 
-pub put_part-requires-clause-own : goal.put_part-requires-clause-own
-put_part-requires-clause-own g c = c.loop-part.invariant.adds.own
-
-pub put_part-requires-clause-expanded_own : goal.put_part-requires-clause-expanded_own
-put_part-requires-clause-expanded_own g c = λ k d h k' d' h'. c.loop-part.invariant.keeps.own _ (c.requires.expanded_own k d h k' d' h')
-
-pub put_part-requires-clause-cond_own : goal.put_part-requires-clause-cond_own
-put_part-requires-clause-cond_own g c = c.loop-part.invariant.keeps.own _ c.requires.cond_own
-
-pub returns-in_err-put_part-clause-keeps : goal.returns-in_err-put_part-clause-keeps
-returns-in_err-put_part-clause-keeps g c = Keeps-trans c.loop-part.invariant.keeps c.put_part.ensures.keeps
-
 pub loop-part-preserved : goal.loop-part-preserved
 loop-part-preserved g c = fills_more _ c.loop-part.invariant c.loop-part-test.true c.requires.expanded_own c.requires.cond_own c.put_part.ensures.keeps c.in_ok-put_part.ensures.adds
 
@@ -36,5 +24,5 @@ returns-clause-adds g c =
     adds-as c.loop-part.invariant.adds (λ x listed. ap (parts_at first c.args.expanded.now (first.has c.args.cond.0 x) x) (take_all c.loop-part.part-index c.args.parts.now c.loop-part-test.false))
     (λ st files held. held) (λ x y p q alike. alike)
 
-pub returns-clause-keeps : goal.returns-clause-keeps
-returns-clause-keeps g c = c.loop-part.invariant.keeps
+pub returns-in_err-put_part-clause-keeps : goal.returns-in_err-put_part-clause-keeps
+returns-in_err-put_part-clause-keeps g c = Keeps-trans c.loop-part.invariant.keeps c.put_part.ensures.keeps

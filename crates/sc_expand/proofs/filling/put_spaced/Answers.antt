@@ -31,9 +31,6 @@ returns-then-is_never-clause-left g c =
       at = λ x here. kept.at x here ∙ rest_whole (old.has c.args.has.0 x) (old.has c.args.left.0 x) (sym (told.at x here) ∙ (c.is_never.ensures.0 c.if-is_never.true).none x here);
     }
 
-pub returns-in_err-rest-clause-keeps : goal.returns-in_err-rest-clause-keeps
-returns-in_err-rest-clause-keeps g c = Keeps-trans (Keeps-trans c.apply_and.ensures.keeps c.negate.ensures.keeps) (Keeps-trans c.apply_and-2.ensures.keeps c.apply_and-3.ensures.keeps)
-
 pub returns-clause-adds : goal.returns-clause-adds
 returns-clause-adds g c =
     let old = g.C.Conditions.sets c.args.conds.now in
@@ -75,3 +72,6 @@ returns-clause-left g c =
       own = rest.own;
       at = λ x here. rest.at x here ∙ rest_parted (old.has c.args.has.0 x) (old.has c.args.left.0 x);
     }
+
+pub returns-in_err-rest-clause-keeps : goal.returns-in_err-rest-clause-keeps
+returns-in_err-rest-clause-keeps g c = Keeps-trans (Keeps-trans c.apply_and.ensures.keeps c.negate.ensures.keeps) (Keeps-trans c.apply_and-2.ensures.keeps c.apply_and-3.ensures.keeps)

@@ -9,6 +9,14 @@ use Rattle.sc_expand.specs.Settling.{IsHeldSettled, IsSettled}
 use Rattle.sc_model.specs.Growth.{Extends}
 use Rattle.sc_model.specs.Sets.{IsCond}
 use Rattle.sc_table.specs.Table.{macros_at}
+use Rattle.sc_expand.proofs.Ending.{bared}
+use Rattle.sc_expand.proofs.TakingParts.{none-found}
+use Rattle.sc_expand.proofs.UnchangedAnswers.{looks-given, settled-unchanged}
+use Rattle.sc_expand.specs.declared.refusals.Refusals.{Refusals}
+use Rattle.sc_guarded.specs.Items.{items_at}
+use Rattle.sc_model.specs.Sets.{IsConfig}
+use Rattle.sc_subst.specs.Seen.{seen_hidden}
+use Rattle.std.proofs.Common.{ℕ, List, map}
 use Rattle.sc_expand.proofs.settling.settle.Goals as goal
 
 pub run-ran-requires-clause-held : goal.run-ran-requires-clause-held
@@ -57,6 +65,13 @@ returns g c =
           (subst (λ h. IsSettled new files settled (macros config) (seen_at (stores s n h) list config) config (s.has live.0 config)) into
           (settled-is old begun list live fresh e.live e.work new after settled f.done f.rest f.held files (macros config) config listed ran.out (ran.done config listed)));
       held = subst (λ h. IsHeldSettled (stores last later h) (length files) settled) back (settled-held old begun list live fresh e.live e.work new after settled f.done f.rest f.held (length files) ran.held ran.out);
+      unchanged = λ none.
+          let was = ran.unchanged (looks-given s n macros begun (map bared list) live e.live (ap (map bared) e.work) none) in
+          let same = settled-unchanged last begun after settled (map bared list) live e.live (ap (map bared) e.work) fresh.faults f.done f.held was in
+          let none_waits = λ (x : List ℕ) (listed : IsConfig s.arities x).
+          ap (λ (r : Refusals). last.has r.waiting.0 x) was.1
+          ∙ (ap (λ (k : Cond). last.has k.0 x) e.waiting ∙ (c.run-ran.ensures.grows.sets.at c.never-never.result.0 x c.never-never.ensures.own listed ∙ c.never-never.ensures.meaning.at x listed)) in
+          (same.0, (same.1, λ x listed. ap (λ l. items_at last l x) f.rest ∙ none-found (seen_hidden later after.sets) (items_at last after.rest x) (ran.rest x listed (none_waits x listed))));
       stops = tt;
       alike = λ one two p q here there same defines.
           let looked = subst (λ h. DefineAlike (provenance_of files) (macros one) (macros two) (seen_at (stores s n h) list one)) (sym into) defines in

@@ -102,11 +102,11 @@ returns-in_err-settle-clause-items g c =
 pub returns-in_err-met-clause-items : goal.returns-in_err-met-clause-items
 returns-in_err-met-clause-items g c = keeps-items c.loop-index.invariant.restricted c.apply_and.ensures.keeps
 
-pub returns-in_err-met-clause-keeps : goal.returns-in_err-met-clause-keeps
-returns-in_err-met-clause-keeps g c = Keeps-trans c.loop-index.invariant.restricted.keeps c.apply_and.ensures.keeps
-
 pub returns-in_err-rest-clause-items : goal.returns-in_err-rest-clause-items
 returns-in_err-rest-clause-items g c = keeps-items c.loop-index.invariant.restricted c.apply_and-then-count-first.ensures.keeps
+
+pub returns-in_err-met-clause-keeps : goal.returns-in_err-met-clause-keeps
+returns-in_err-met-clause-keeps g c = Keeps-trans c.loop-index.invariant.restricted.keeps c.apply_and.ensures.keeps
 
 pub returns-in_err-rest-clause-keeps : goal.returns-in_err-rest-clause-keeps
 returns-in_err-rest-clause-keeps g c = Keeps-trans c.loop-index.invariant.restricted.keeps c.apply_and-then-count-first.ensures.keeps

@@ -1,4 +1,4 @@
-use Rattle.std.proofs.Common.{◌∷◌, ap, arith, length, subst, sym, ◌∙◌}
+use Rattle.std.proofs.Common.{◌∷◌, ap, arith, length, subst, sum_by, sym, ◌∙◌}
 use Rattle.sc_base.proofs.Growth.{Extends-refl}
 use Rattle.sc_base.specs.declared.id.Cond.{Cond}
 use Rattle.sc_expand.proofs.AlikeLemmas.{All-at}
@@ -6,7 +6,7 @@ use Rattle.sc_expand.proofs.Rests.{first-is, never-Keeps, never-at, rested-Grows
 use Rattle.sc_expand.proofs.WaitingLemmas.{below-some, kept-later}
 use Rattle.sc_expand.specs.Machine.{is_whole}
 use Rattle.sc_expand.proofs.SeenLemmas.{Grows-refl}
-use Rattle.sc_expand.specs.Running.{IsRested}
+use Rattle.sc_expand.specs.Running.{IsRested, frame_weight}
 use Rattle.sc_expand.specs.Seen.{Grows, stores}
 use Rattle.sc_model.proofs.SetLemmas.{Denotes-self, Denotes-Keeps, Keeps-trans}
 use Rattle.sc_model.specs.Sets.{IsCond}
@@ -70,12 +70,14 @@ returns-in_ok-drop_first-clause-rested g c = λ names.
     (rested-then (rested-then (rested-Grows grows e) (rested-Grows later e))
     (rested-token new e c.drop_first.new.self drops.refusals c.drop_first.ensures.sets item never (first-is e.top.work item is ∙ ap (λ l. item ∷ l) (sym drops.work)) (ap (λ v. v.items) drops.calls) drops.out drops.below kept))
 
-pub returns-in_ok-drop_first-clause-keeps : goal.returns-in_ok-drop_first-clause-keeps
-returns-in_ok-drop_first-clause-keeps g c = Keeps-trans c.apply_and.ensures.keeps c.drop_first.ensures.keeps
-
 pub returns-in_ok-drop_first-clause-less : goal.returns-in_ok-drop_first-clause-less
 returns-in_ok-drop_first-clause-less g c =
-    let is = sym c.first.ensures ∙ c.in-Some.is in
-    let whole = ap length (first-is c.args.self.now.top.work c.in-Some.first is) in
-    let later = ap length c.in_ok-drop_first.ensures.drops.work in
-    omega (arith, whole, later)
+    let drops = c.in_ok-drop_first.ensures.drops in
+    let whole = ap length (first-is c.args.self.now.top.work c.in-Some.first (sym c.first.ensures ∙ c.in-Some.is)) in
+    let later = ap length drops.work in
+    let calls = ap (λ v. length v.items) drops.calls in
+    let below = ap (λ v. sum_by (λ o. frame_weight o.frame) v.items) drops.below in
+    omega (arith, whole, later, calls, below)
+
+pub returns-in_ok-drop_first-clause-keeps : goal.returns-in_ok-drop_first-clause-keeps
+returns-in_ok-drop_first-clause-keeps g c = Keeps-trans c.apply_and.ensures.keeps c.drop_first.ensures.keeps

@@ -44,20 +44,11 @@ returns-in_err-branches-clause-stops g c =
     let p = err_from_is_err_and c.from_residual-in_err-branches.result c.from_residual-in_err-branches.ensures.1 in
     rw (p.1, p.2) (stops-at c.args.cond.0 c.args.self.now.top.work c.args.limit _ c.first_calls.ensures.keeps c.requires.held.top.work c.in_ok-found.ensures.closed c.in_err-branches.ensures.refused)
 
-pub returns-in_err-branches-clause-keeps : goal.returns-in_err-branches-clause-keeps
-returns-in_err-branches-clause-keeps g c = Keeps-trans c.first_calls.ensures.keeps c.closed_calls.ensures.keeps
-
-pub returns-in_err-uncalled-clause-keeps : goal.returns-in_err-uncalled-clause-keeps
-returns-in_err-uncalled-clause-keeps g c = Keeps-trans (Keeps-trans c.first_calls.ensures.keeps c.closed_calls.ensures.keeps) c.leave_open.ensures.keeps
-
 pub items_at-requires-clause-file : goal.items_at-requires-clause-file
 items_at-requires-clause-file g c =
     let st = stores (g.C.Conditions.sets c.args.conds.now) c.args.names.now c.args.self.now.sets in
     let head = head-held (IsHeldToken st (length c.args.files.now)) c.args.self.now.top.work c.args.head c.requires.held.top.work.held c.requires.head in
     head.file
-
-pub returns-in_err-items-clause-keeps : goal.returns-in_err-items-clause-keeps
-returns-in_err-items-clause-keeps g c = Keeps-trans (Keeps-trans c.first_calls.ensures.keeps c.closed_calls.ensures.keeps) c.leave_open.ensures.keeps
 
 pub gather_calls-requires : goal.gather_calls-requires
 gather_calls-requires g c =
@@ -84,9 +75,6 @@ gather_calls-requires g c =
       branches = are-branches parts c.requires.stands c.requires.live c.requires.calls;
       one = one-at-most parts;
     }
-
-pub returns-in_err-gather_calls-clause-keeps : goal.returns-in_err-gather_calls-clause-keeps
-returns-in_err-gather_calls-clause-keeps g c = Keeps-trans (Keeps-trans (Keeps-trans c.first_calls.ensures.keeps c.closed_calls.ensures.keeps) c.leave_open.ensures.keeps) c.gather_calls.ensures.keeps
 
 pub returns : goal.returns
 returns g c =
@@ -119,3 +107,15 @@ returns g c =
       names = search rules;
       sets = search rules;
     }
+
+pub returns-in_err-branches-clause-keeps : goal.returns-in_err-branches-clause-keeps
+returns-in_err-branches-clause-keeps g c = Keeps-trans c.first_calls.ensures.keeps c.closed_calls.ensures.keeps
+
+pub returns-in_err-uncalled-clause-keeps : goal.returns-in_err-uncalled-clause-keeps
+returns-in_err-uncalled-clause-keeps g c = Keeps-trans (Keeps-trans c.first_calls.ensures.keeps c.closed_calls.ensures.keeps) c.leave_open.ensures.keeps
+
+pub returns-in_err-items-clause-keeps : goal.returns-in_err-items-clause-keeps
+returns-in_err-items-clause-keeps g c = Keeps-trans (Keeps-trans c.first_calls.ensures.keeps c.closed_calls.ensures.keeps) c.leave_open.ensures.keeps
+
+pub returns-in_err-gather_calls-clause-keeps : goal.returns-in_err-gather_calls-clause-keeps
+returns-in_err-gather_calls-clause-keeps g c = Keeps-trans (Keeps-trans (Keeps-trans c.first_calls.ensures.keeps c.closed_calls.ensures.keeps) c.leave_open.ensures.keeps) c.gather_calls.ensures.keeps

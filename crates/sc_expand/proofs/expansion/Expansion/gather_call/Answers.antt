@@ -29,9 +29,6 @@ arguments-requires g c =
     let rest = All-tail H c.in_ok-call.call.close c.in_ok-call.call.between (c.in_ok-call.ensures.left.own files c.requires.held.1.top.work) in
     λ k d h. (rest k d h).held.token.spelling
 
-pub begin-requires-clause-cond_own : goal.begin-requires-clause-cond_own
-begin-requires-clause-cond_own g c = c.take_call.ensures.keeps.own _ c.requires.branch.own
-
 pub begin-requires-clause-held : goal.begin-requires-clause-held
 begin-requires-clause-held g c = (c.requires.held.0, left-held c.in_ok-call.ensures.left c.requires.held.0 c.requires.held.1)
 
@@ -100,12 +97,6 @@ returns-in-Some-clause-gathered g c = on-ok c.begin.result
     began.others began.alike raw refl (head files held).held (All-head (IsHeldToken (stores s0 n e0.sets) files) close between (left.own files held.top.work)).held hidden c.requires.form c.requires.items began)
     c.begin.ensures.begun
 
-pub returns-in-Some-clause-keeps : goal.returns-in-Some-clause-keeps
-returns-in-Some-clause-keeps g c = Keeps-trans c.take_call.ensures.keeps c.begin.ensures.keeps
-
-pub refuse-requires-clause-own : goal.refuse-requires-clause-own
-refuse-requires-clause-own g c = c.take_call.ensures.keeps.own _ c.requires.branch.own
-
 pub returns-clause-gathered : goal.returns-clause-gathered
 returns-clause-gathered g c = on-ok c.refuse.result
     (λ refuses.
@@ -126,6 +117,15 @@ returns-clause-gathered g c = on-ok c.refuse.result
     (λ k held. refused-held grows e1 (left-held left k held) refuses (head-held (IsHeldToken (stores s0 n e0.sets) k) e0.top.work c.args.head held.top.work.held c.requires.head).file)
     (refused-other grows e1 mid refuses) (refused-alike grows e1 mid refuses) refl (refused-live grows e1 mid refuses) (refused-ends grows e1 mid refuses))
     c.refuse.ensures.refuses
+
+pub begin-requires-clause-cond_own : goal.begin-requires-clause-cond_own
+begin-requires-clause-cond_own g c = c.take_call.ensures.keeps.own _ c.requires.branch.own
+
+pub returns-in-Some-clause-keeps : goal.returns-in-Some-clause-keeps
+returns-in-Some-clause-keeps g c = Keeps-trans c.take_call.ensures.keeps c.begin.ensures.keeps
+
+pub refuse-requires-clause-own : goal.refuse-requires-clause-own
+refuse-requires-clause-own g c = c.take_call.ensures.keeps.own _ c.requires.branch.own
 
 pub returns-clause-keeps : goal.returns-clause-keeps
 returns-clause-keeps g c = Keeps-trans c.take_call.ensures.keeps c.refuse.ensures.keeps

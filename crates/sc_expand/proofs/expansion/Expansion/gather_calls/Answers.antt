@@ -12,9 +12,6 @@ loop-branch-init g c =
     let st = stores (g.C.Conditions.sets c.args.conds.now) c.args.names.now c.args.self.now.sets in
     record { grows = Grows-refl st; gathered = gathered-none st c.args.self.now c.args.form.now c.args.items.now c.args.head }
 
-pub gather_call-requires-clause-held : goal.gather_call-requires-clause-held
-gather_call-requires-clause-held g c = (c.requires.held.0, c.loop-branch.invariant.gathered.held c.requires.held.0 c.requires.held.1)
-
 pub gather_call-requires-clause-branch : goal.gather_call-requires-clause-branch
 gather_call-requires-clause-branch g c =
     let old = stores (g.C.Conditions.sets c.args.conds.now) c.args.names.now c.args.self.now.sets in
@@ -25,9 +22,6 @@ gather_call-requires-clause-branch g c =
     let head = head-held (IsHeldToken old c.requires.held.0) c.args.self.now.top.work c.args.head c.requires.held.1.top.work.held c.requires.head in
     branch-later was.grows c.args.form.now c.args.items.now c.args.head head.held c.requires.form c.requires.items c.args.self.now c.loop-branch.self c.args.branches.now i b within c.branch-item.is was.gathered c.requires.one
     (subst (IsBranch old c.args.self.now) (sym c.branch-item.is) (c.requires.branches i b within))
-
-pub returns-in_err-gather_call-clause-keeps : goal.returns-in_err-gather_call-clause-keeps
-returns-in_err-gather_call-clause-keeps g c = Keeps-trans c.loop-branch.invariant.grows.sets c.gather_call.ensures.keeps
 
 pub loop-branch-preserved : goal.loop-branch-preserved
 loop-branch-preserved g c =
@@ -46,3 +40,9 @@ loop-branch-preserved g c =
       gathered = gathered-more was.grows c.args.form.now c.args.items.now c.args.head head.held c.requires.form c.requires.items c.args.self.now c.loop-branch.self c.args.branches.now i b within c.branch-item.is
           was.gathered c.requires.one st c.gather_call.new.self c.in_ok-gather_call.ensures.gathered is.own;
     }
+
+pub returns-in_err-gather_call-clause-keeps : goal.returns-in_err-gather_call-clause-keeps
+returns-in_err-gather_call-clause-keeps g c = Keeps-trans c.loop-branch.invariant.grows.sets c.gather_call.ensures.keeps
+
+pub gather_call-requires-clause-held : goal.gather_call-requires-clause-held
+gather_call-requires-clause-held g c = (c.requires.held.0, c.loop-branch.invariant.gathered.held c.requires.held.0 c.requires.held.1)

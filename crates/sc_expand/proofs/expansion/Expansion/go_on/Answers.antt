@@ -88,9 +88,6 @@ replace-requires-clause-calls g c = λ config listed has.
     let parts = and_parts _ _ (sym (both.at config listed) ∙ has) in
     calls_at-Grows grows config before c.args.self.now.top.calls.items held.top.calls ∙ c.requires.calls config before parts.0 parts.1
 
-pub returns-in-None-clause-keeps : goal.returns-in-None-clause-keeps
-returns-in-None-clause-keeps g c = Keeps-trans c.apply_and.ensures.keeps c.replace.ensures.keeps
-
 pub returns-in-None-clause-gone_on : goal.returns-in-None-clause-gone_on
 returns-in-None-clause-gone_on g c = on-ok c.replace.result
     (λ replaced.
@@ -137,3 +134,6 @@ returns-in-None-clause-gone_on g c = on-ok c.replace.result
       rest = λ config listed. more-Keeps keeps listed (bottom e).work (bottom after).work (bottom-held e held) (replaced.rest config (IsConfig-Keeps keeps listed));
     })
     c.replace.ensures.replaced
+
+pub returns-in-None-clause-keeps : goal.returns-in-None-clause-keeps
+returns-in-None-clause-keeps g c = Keeps-trans c.apply_and.ensures.keeps c.replace.ensures.keeps

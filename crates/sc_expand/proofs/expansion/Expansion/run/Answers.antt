@@ -17,9 +17,6 @@ loop-self-init g c =
 pub drop_refused-requires : goal.drop_refused-requires
 drop_refused-requires g c = record { held = (c.loop-self.names, (length c.args.files.now, c.loop-self.invariant.running.held)) }
 
-pub returns-in_err-drop_refused-clause-stops : goal.returns-in_err-drop_refused-clause-stops
-returns-in_err-drop_refused-clause-stops g c = search rules
-
 pub returns-in_err-drop_refused-clause-grows : goal.returns-in_err-drop_refused-clause-grows
 returns-in_err-drop_refused-clause-grows g c =
     let grows = c.loop-self.invariant.grows in

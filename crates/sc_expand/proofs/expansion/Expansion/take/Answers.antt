@@ -49,9 +49,6 @@ take_under-requires g c =
       begun = first-ready known;
     }
 
-pub returns-in_err-put_out-clause-keeps : goal.returns-in_err-put_out-clause-keeps
-returns-in_err-put_out-clause-keeps g c = Keeps-trans (Keeps-trans c.apply_and.ensures.keeps c.take_under.ensures.keeps) c.put_out.ensures.keeps
-
 pub returns-in_err-taken-clause-stops : goal.returns-in_err-taken-clause-stops
 returns-in_err-taken-clause-stops g c =
     let p = err_from_is_err_and c.from_residual-in_err-taken.result c.from_residual-in_err-taken.ensures.1 in
@@ -167,3 +164,6 @@ returns g c =
       names = all.names;
       sets = subst (Extends h) (sym same_sets) all.hides;
     }
+
+pub returns-in_err-put_out-clause-keeps : goal.returns-in_err-put_out-clause-keeps
+returns-in_err-put_out-clause-keeps g c = Keeps-trans (Keeps-trans c.apply_and.ensures.keeps c.take_under.ensures.keeps) c.put_out.ensures.keeps

@@ -23,9 +23,6 @@ slice_bounds-between-start g c =
     let three = places-three (stores (g.C.Conditions.sets c.args.conds.now) c.args.names.now c.args.self.now.sets) c.args.self.now c.args.branch.now c.requires.branch in
     omega (arith, three, c.len-last.ensures, c.deref.ensures.len, ap length c.deref.ensures.value)
 
-pub between-requires-clause-names : goal.between-requires-clause-names
-between-requires-clause-names g c = λ k d h. (c.requires.held.1.top.work.held k d h).held.token.spelling
-
 pub between-requires-clause-places : goal.between-requires-clause-places
 between-requires-clause-places g c =
     let P : ℕ → Type 0 = λ p. p < length c.args.self.now.top.work in

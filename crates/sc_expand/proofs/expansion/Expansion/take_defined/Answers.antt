@@ -28,12 +28,6 @@ use Rattle.sc_subst.specs.declared.hidden.Hidden.{Hidden}
 use Rattle.sc_subst.specs.Seen.{seen_hidden}
 use Rattle.sc_expand.proofs.expansion.Expansion.take_defined.Goals as goal
 
-pub returns-in_err-taken-clause-keeps : goal.returns-in_err-taken-clause-keeps
-returns-in_err-taken-clause-keeps g c = Keeps-trans c.gather.ensures.keeps c.apply_or.ensures.keeps
-
-pub returns-then-is_function_like-clause-keeps : goal.returns-then-is_function_like-clause-keeps
-returns-then-is_function_like-clause-keeps g c = Keeps-trans c.gather.ensures.keeps c.apply_or.ensures.keeps
-
 pub returns-then-is_function_like-clause-taken : goal.returns-then-is_function_like-clause-taken
 returns-then-is_function_like-clause-taken g c =
     let s0 = g.C.Conditions.sets c.args.conds.now in
@@ -135,3 +129,9 @@ returns-in_err-uncalled-clause-stops g c =
     let Has : List ℕ → Type 0 = λ x. s.has c.args.cond.0 x ≡ true in
     let Calls : List ℕ → Type 0 = λ x. (s.has c.args.cond.0 x ≡ true) × IsTrue (is_function_like (seen_definition n c.args.definition.now).form) in
     rw (p.1, p.2) (stops-weaker s n Has Calls c.args.self.now.top.work c.args.limit _ (λ x listed has. (has, sym (c.is_function_like.ensures n) ∙ c.if-is_function_like.true)) c.in_err-uncalled.ensures.stops)
+
+pub returns-in_err-taken-clause-keeps : goal.returns-in_err-taken-clause-keeps
+returns-in_err-taken-clause-keeps g c = Keeps-trans c.gather.ensures.keeps c.apply_or.ensures.keeps
+
+pub returns-then-is_function_like-clause-keeps : goal.returns-then-is_function_like-clause-keeps
+returns-then-is_function_like-clause-keeps g c = Keeps-trans c.gather.ensures.keeps c.apply_or.ensures.keeps

@@ -51,9 +51,6 @@ take_parts-requires-clause-begun g c = λ x listed one.
     subst (IsBegun (seen_hidden n h c.args.head)) (sym (still-untaken grows c.args.self.now (record { stays = c.never.result; made = c.new.result }) c.requires.held c.never.ensures.meaning c.new.ensures.items x first))
     (c.requires.begun x first has)
 
-pub returns-in_err-take_parts-clause-keeps : goal.returns-in_err-take_parts-clause-keeps
-returns-in_err-take_parts-clause-keeps g c = Keeps-trans c.lookup.ensures.keeps c.take_parts.ensures.keeps
-
 pub returns-in_err-take_parts-clause-stops : goal.returns-in_err-take_parts-clause-stops
 returns-in_err-take_parts-clause-stops g c =
     let p = err_from_is_err_and c.from_residual-in_err-take_parts.result c.from_residual-in_err-take_parts.ensures.1 in
@@ -128,3 +125,6 @@ returns g c =
       names = c.take_parts.ensures.names;
       sets = c.take_parts.ensures.sets;
     }
+
+pub returns-in_err-take_parts-clause-keeps : goal.returns-in_err-take_parts-clause-keeps
+returns-in_err-take_parts-clause-keeps g c = Keeps-trans c.lookup.ensures.keeps c.take_parts.ensures.keeps

@@ -9,7 +9,6 @@ use Rattle.sc_expand.proofs.PlainCases.{case-undefined}
 use Rattle.sc_expand.proofs.SeenLemmas.{AreHeld-Grows, IsHeldExpansion-Grows, at-Grows, seen_at-Grows}
 use Rattle.sc_expand.proofs.StopsLemmas.{stops-weaker}
 use Rattle.sc_expand.proofs.TakenLemmas.{taken-each}
-use Rattle.sc_expand.proofs.TakingLemmas.{or_true}
 use Rattle.sc_expand.proofs.TakingSteps.{has_first-Keeps, last-undefined, on-ok, same-step}
 use Rattle.sc_expand.proofs.WorkListLemmas.{has_each-Keeps}
 use Rattle.sc_expand.specs.Seen.{Grows, stores}
@@ -18,6 +17,7 @@ use Rattle.sc_macro.specs.Seen.{seen_definition}
 use Rattle.sc_model.proofs.SetLemmas.{Denotes-self, IsConfig-Keeps}
 use Rattle.sc_subst.proofs.Store.{if_err}
 use Rattle.sc_subst.specs.Seen.{seen_hidden}
+use Rattle.std.proofs.lemmas.Bool.{or_right}
 use Rattle.sc_expand.proofs.expansion.Expansion.take_part.Goals as goal
 
 pub returns-in_ok-taken-in-None-clause-taken : goal.returns-in_ok-taken-in-None-clause-taken
@@ -39,7 +39,7 @@ returns-in_ok-taken-in-None-clause-taken g c =
           kept (case-undefined macros (seen_hidden n e.sets c.args.head) rest c.requires.name (is ∙ ap (option_map (λ shared. seen_definition n shared.value)) c.in-None.is))
           (λ whole. last-undefined macros (seen_hidden n e.sets c.args.head) rest (is ∙ ap (option_map (λ shared. seen_definition n shared.value)) c.in-None.is))
           (same-step (at-Grows grows x listed e c.requires.held) (has_first-Keeps keeps e.top.work own x listed ∙ begun.first)
-          (told.at x (IsConfig-Keeps keeps listed) ∙ or_true (s.has before.stays.0 x) (s.has c.args.cond.0 x) has) (seen_at-Grows grows x listed before.made.items c.requires.taken.made ∙ begun.made));
+          (told.at x (IsConfig-Keeps keeps listed) ∙ or_right (s.has before.stays.0 x) (s.has c.args.cond.0 x) has) (seen_at-Grows grows x listed before.made.items c.requires.taken.made ∙ begun.made));
       others = λ x listed no.
           same-step (at-Grows grows x listed e c.requires.held) (has_first-Keeps keeps e.top.work own x listed)
           (told.at x (IsConfig-Keeps keeps listed) ∙ (ap (λ b. s.has before.stays.0 x || b) no ∙ or-false (s.has before.stays.0 x))) (seen_at-Grows grows x listed before.made.items c.requires.taken.made);

@@ -33,12 +33,6 @@ take_part-requires-clause-begun g c = λ x listed has.
     subst (IsBegun (seen_hidden c.loop-part.names c.loop-part.self.sets c.args.head)) (sym (was.done.others x first none.0))
     (subst (λ u. IsBegun u (step_at (stores s c.args.names.now c.args.self.now.sets) c.args.self.now c.args.taken.now x)) (sym (seen_hidden-Grows was.grows c.args.head c.requires.head)) (c.requires.begun x first none.1))
 
-pub take_part-requires-clause-held : goal.take_part-requires-clause-held
-take_part-requires-clause-held g c = c.loop-part.invariant.done.held
-
-pub take_part-requires-clause-taken : goal.take_part-requires-clause-taken
-take_part-requires-clause-taken g c = c.loop-part.invariant.done.taken
-
 pub take_part-requires-clause-first : goal.take_part-requires-clause-first
 take_part-requires-clause-first g c = ap (λ l. slice_get l 0) c.loop-part.invariant.done.lists.tokens ∙ c.requires.first
 
@@ -69,9 +63,6 @@ take_part-requires-clause-definition g c =
     let named = c.requires.definitions c.loop-part.part-index c.part-item.result c.loop-part-test.true in
     IfSome_then c.part-item.result.1 (subst (λ p. IfSome p.1 (λ shared. IsHeldDefinition c.args.names.now shared.value)) (sym c.part-item.is) named)
     (λ shared held. IsHeldDefinition-Extends c.loop-part.invariant.grows.names shared.value held)
-
-pub returns-in_err-take_part-clause-keeps : goal.returns-in_err-take_part-clause-keeps
-returns-in_err-take_part-clause-keeps g c = Keeps-trans c.loop-part.invariant.grows.sets c.take_part.ensures.keeps
 
 pub loop-part-init : goal.loop-part-init
 loop-part-init g c =
@@ -110,3 +101,6 @@ returns-clause-done g c =
     let old = stores (g.C.Conditions.sets c.args.conds.now) c.args.names.now c.args.self.now.sets in
     let st = stores (g.C.Conditions.sets c.loop-part.conds) c.loop-part.names c.loop-part.self.sets in
     subst (AreTaken c.args.files.now old st c.args.self.now c.loop-part.self c.args.taken.now c.loop-part.taken c.args.head) (take_all c.loop-part.part-index c.args.parts.now c.loop-part-test.false) c.loop-part.invariant.done
+
+pub returns-in_err-take_part-clause-keeps : goal.returns-in_err-take_part-clause-keeps
+returns-in_err-take_part-clause-keeps g c = Keeps-trans c.loop-part.invariant.grows.sets c.take_part.ensures.keeps

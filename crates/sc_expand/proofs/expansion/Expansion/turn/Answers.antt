@@ -28,16 +28,10 @@ returns-in-Some-clause-turned g c =
 pub take-requires-clause-held : goal.take-requires-clause-held
 take-requires-clause-held g c = popped-held c.args.self.now c.requires.is.held c.pop.new.self c.pop.result c.pop.ensures.items
 
-pub take-requires-clause-first : goal.take-requires-clause-first
-take-requires-clause-first g c = sym c.first.ensures ∙ c.in-Some-first.is
-
 pub take-requires-clause-calls : goal.take-requires-clause-calls
 take-requires-clause-calls g c =
     let none = none-popped c.args.self.now.top.calls.items c.pop.new.self.items (vec_len c.args.self.now.top.calls) (vec_len c.pop.new.self) c.pop.result c.pop.ensures.items c.pop.ensures.rest c.pop.ensures.cases (not-some c.pop.result c.in_default.not-Some) in
     none.after
-
-pub take-requires-clause-table : goal.take-requires-clause-table
-take-requires-clause-table g c = c.requires.table
 
 pub returns-in-Some-first-clause-turned : goal.returns-in-Some-first-clause-turned
 returns-in-Some-first-clause-turned g c =
