@@ -1,14 +1,13 @@
 -- How many items of a list stand behind each that a configuration has.
-use Rattle.std.proofs.Common.{◌≡◌, ◌⊎◌, inl, inr, ℕ, min, zero, suc, ◌-◌, ◌<◌, ◌≤◌, nat_lt, Bool, true, false, List, [], ◌∷◌, ◌++◌, All, take, drop, length, refl, sym, ap, subst, ◌∙◌, arith, if◌then◌else◌}
+use Rattle.std.proofs.Common.{◌≡◌, ◌⊎◌, inl, inr, ℕ, min, zero, suc, ◌-◌, ◌<◌, ◌≤◌, nat_lt, Bool, true, false, List, [], ◌∷◌, ◌++◌, All, take, drop, length, refl, sym, ap, ◌∙◌, arith, if◌then◌else◌}
 use Rattle.std.proofs.lemmas.Bool.{cases_lt, le-ltb, lt-ltb}
 use Rattle.std.proofs.lemmas.List.{drop_all, length-drop}
-use Rattle.std.proofs.lemmas.List.Elements.{All-cons, All-head, All-nil, All-tail, All-weaker}
+use Rattle.std.proofs.lemmas.List.Elements.{All-head, All-tail, All-weaker}
 use Rattle.sc_base.specs.declared.id.Cond.{Cond}
 use Rattle.sc_expand.specs.FootprintSteps.{lower_of}
 use Rattle.sc_expand.proofs.Lower.{lower-min}
 use Rattle.sc_expand.specs.Having.{HasLast, HasMore, behind_at}
 use Rattle.sc_guarded.specs.Items.{items_at}
-use Rattle.sc_hoist.specs.Alike.{AreAlike, IsAlike}
 use Rattle.sc_model.specs.Sets.{Sets}
 use Rattle.sc_subst.specs.declared.hidden.Hidden.{Hidden}
 
@@ -21,11 +20,6 @@ below n (m ∷ ms) = if nat_lt m n then m ∷ below n ms else below n ms
 abbrev pub Fall : ℕ → List ℕ → Type 0
 Fall n [] = Unit {0}
 Fall n (m ∷ ms) = (m < n) × Fall m ms
-
--- the last of the numbers, or n where there is none
-abbrev pub last_taken : ℕ → List ℕ → ℕ
-last_taken n [] = n
-last_taken n (m ∷ ms) = last_taken m ms
 
 -- ---- numbers that fall
 
@@ -76,10 +70,6 @@ below-high n high (m ∷ made) ms less above =
     let first : high ≤ suc m = All-head F m made above in
     below-not n m (made ++ ms) (omega arith) ∙ below-high n high made ms less (All-tail F m made above)
 
-last_taken-more : (n m k : ℕ) (ms : List ℕ) → suc k ≤ length ms → last_taken n (take (suc k) ms) ≡ last_taken m (take (suc k) ms)
-last_taken-more n m k [] long = absurd (omega arith)
-last_taken-more n m k (x ∷ ms) long = refl
-
 module _ {T : Type 0} (s : Sets) (c : List ℕ) where
   -- a number for each item
   pub length-behind : (list : List (Cond × T)) → length (behind_at s list c) ≡ length (items_at s list c)
@@ -121,71 +111,6 @@ module _ {T : Type 0} (s : Sets) (c : List ℕ) where
 
   pub below-items : (n : ℕ) (list : List (Cond × T)) → n ≤ length list → length (below n (behind_at s list c)) ≡ length (items_at s (drop (length list - n) list) c)
   below-items n list within = ap length (below-behind n list within) ∙ length-behind (drop (length list - n) list)
-
--- ---- the first items of two configurations
-
--- Both have the same items down to the last of so many: behind that one each has the rest of its
--- own.
-pub record FirstAlike {T : Type 0} (s : Sets) (c d : List ℕ) (list : List (Cond × T)) (xs ys : List ℕ) (k b : ℕ) : Type 0 where
-  pub within : b ≤ length list
-  pub alike : AreAlike s c d (take (length list - b) list)
-  pub left : length (below b xs) ≡ length xs - k
-  pub left_other : length (below b ys) ≡ length ys - k
-
-no-first : (n k : ℕ) (ms ns : List ℕ) → Fall n ns → n ∷ ms ≡ take (suc k) ns → ⊥
-no-first n k ms [] falls same = absurd (cc)
-no-first n k ms (m ∷ ns) falls same = let first : n ≡ m = cc in omega (arith, falls.0)
-
-module _ {T : Type 0} (s : Sets) (c d : List ℕ) where
-  -- one item more in front
-  FirstAlike-more : (item : Cond × T) (items : List (Cond × T)) (xs ys : List ℕ) (k b : ℕ) → IsAlike s c d item.0 → FirstAlike s c d items xs ys k b
-      → ((zs : List ℕ) → length (below b (length items ∷ zs)) ≡ length (below b zs)) × (b ≤ length (item ∷ items)) × AreAlike s c d (take (length (item ∷ items) - b) (item ∷ items))
-  FirstAlike-more item items xs ys k b alike was =
-      let P : Cond × T → Type 0 = λ x. IsAlike s c d x.0 in
-      let count : suc (length items) - b ≡ suc (length items - b) = omega (arith, was.within) in (
-        λ zs. ap length (below-not b (length items) zs was.within),
-        omega (arith, was.within),
-        subst (λ (n : ℕ). AreAlike s c d (take n (item ∷ items))) (sym count) (All-cons P item (take (length items - b) items) alike was.alike),
-      )
-
-  pub alike-taken : (list : List (Cond × T)) (k : ℕ) → take k (behind_at s list c) ≡ take k (behind_at s list d) → k ≤ length (behind_at s list c) → k ≤ length (behind_at s list d)
-      → FirstAlike s c d list (behind_at s list c) (behind_at s list d) k (last_taken (length list) (take k (behind_at s list c)))
-  alike-taken list zero same long long_d =
-      let none : length list - length list ≡ 0 = omega arith in
-      record {
-        within = omega arith;
-        alike = subst (λ (n : ℕ). AreAlike s c d (take n list)) (sym none) (All-nil (λ (item : Cond × T). IsAlike s c d item.0));
-        left = let all = ap length (below-all (length list) (behind_at s list c) (behind-falls s c list)) in omega (arith, all);
-        left_other = let all = ap length (below-all (length list) (behind_at s list d) (behind-falls s d list)) in omega (arith, all);
-      }
-  alike-taken [] (suc k) same long long_d = absurd (omega arith)
-  alike-taken (item ∷ items) (suc k) same long long_d = by (s.has item.0.0 c) (s.has item.0.0 d) refl refl same long long_d (alike-taken items k) (alike-taken items (suc k))
-    where
-      of : Bool → List ℕ → List ℕ
-      of had ms = if had then length items ∷ ms else ms
-
-      xs : List ℕ
-      xs = behind_at s items c
-
-      ys : List ℕ
-      ys = behind_at s items d
-
-      Goes : ℕ → Type 0
-      Goes j = take j xs ≡ take j ys → j ≤ length xs → j ≤ length ys → FirstAlike s c d items xs ys j (last_taken (length items) (take j xs))
-
-      by : (p q : Bool) → s.has item.0.0 c ≡ p → s.has item.0.0 d ≡ q → take (suc k) (of p xs) ≡ take (suc k) (of q ys) → suc k ≤ length (of p xs) → suc k ≤ length (of q ys)
-          → Goes k → Goes (suc k) → FirstAlike s c d (item ∷ items) (of p xs) (of q ys) (suc k) (last_taken (suc (length items)) (take (suc k) (of p xs)))
-      by true true is is_d same long long_d one all =
-          let rest : take k xs ≡ take k ys = cc in
-          let it = one rest (omega arith) (omega arith) in
-          let more = FirstAlike-more item items xs ys k _ (is ∙ sym is_d) it in
-          record { within = more.1; alike = more.2; left = more.0 xs ∙ omega (arith, it.left); left_other = more.0 ys ∙ omega (arith, it.left_other) }
-      by true false is is_d same long long_d one all = absurd (no-first (length items) k (take k xs) ys (behind-falls s d items) same)
-      by false true is is_d same long long_d one all = absurd (no-first (length items) k (take k ys) xs (behind-falls s c items) (sym same))
-      by false false is is_d same long long_d one all =
-          let it = subst (λ (b : ℕ). FirstAlike s c d items xs ys (suc k) b) (last_taken-more (length items) (suc (length items)) k xs long) (all same long long_d) in
-          let more = FirstAlike-more item items xs ys (suc k) _ (is ∙ sym is_d) it in
-          record { within = more.1; alike = more.2; left = it.left; left_other = it.left_other }
 
 -- ---- the rest of an expansion
 

@@ -3,21 +3,21 @@ use Rattle.std.proofs.Common.{◌≡◌, ◌<◌, ℕ, Bool, true, List, length}
 use Rattle.c11_macros.specs.Expansion.{IsWithin}
 use Rattle.c11_macros.specs.Macros.{Macros}
 use Rattle.sc_expand.proofs.AlikeRunning.{StayAlike, alike-rested, alike-start, alike-turned}
+use Rattle.sc_expand.proofs.PhaseAlike.{phase-turned}
 use Rattle.sc_expand.proofs.Phases.{Phase}
 use Rattle.sc_expand.proofs.PhaseStarts.{phase-ready, phase-rested, phase-start}
 use Rattle.sc_expand.proofs.PhaseStops.{turn-stops}
-use Rattle.sc_expand.proofs.PhaseTurns.{phase-turned}
 use Rattle.sc_expand.proofs.PlainTables.{entry_names, within-table}
 use Rattle.sc_expand.proofs.RunLemmas.{IsRunning, running-rested, running-start, running-turned, steps_in, turned-less}
 use Rattle.sc_expand.proofs.SeenLemmas.{Grows-refl, Grows-trans, macros_at-Grows}
 use Rattle.sc_expand.specs.Alike.{TakesName}
 use Rattle.sc_expand.specs.CallStops.{StopsAt}
 use Rattle.sc_expand.specs.declared.expansion.Expansion.{Expansion}
-use Rattle.sc_expand.specs.Footprints.{StopsAtName}
 use Rattle.sc_expand.specs.Machine.{IsHeldExpansion}
 use Rattle.sc_expand.specs.Running.{IsRested, IsTurned, IsUntouched}
 use Rattle.sc_base.specs.declared.stop.Stop.{Stop}
 use Rattle.sc_expand.specs.Seen.{Grows, Stores, provenance_of}
+use Rattle.sc_expand.specs.Spans.{StopsApart}
 use Rattle.sc_model.specs.Sets.{IsConfig}
 use Rattle.sc_subst.specs.Seen.{seen_hidden}
 use Rattle.sc_table.specs.declared.table.MacroTable.{MacroTable}
@@ -66,7 +66,7 @@ module _ {files : List (List ℕ)} {table : MacroTable} {old now : Stores} {was 
 
   pub turns-taken : {new : Stores} {after : Expansion} {went : Bool} → IsTurned files later now new e after went → IsBetweenTurns files defined old new was after
   turns-taken {new} {after} turned =
-      let at_name = phase-ready names within loop.grows loop.running loop.phase in
+      let at_name = phase-ready loop.running loop.phase in
       record {
         grows = Grows-trans loop.grows turned.grows;
         running = running-turned loop.grows loop.running began new after later same turned;
@@ -78,7 +78,7 @@ module _ {files : List (List ℕ)} {table : MacroTable} {old now : Stores} {was 
   turns-less {new} {after} turned there = turned-less loop.grows loop.running began new after later same turned names within there
 
   pub turns-stop : (limit : ℕ) (stop : Stop) → StopsAt now.sets now.names (λ c. TakesName now (later c) e c) e.top.work limit stop
-      → StopsAtName (seen_hidden old.names old.hides) (provenance_of files) defined old.sets was.refusals.live.0 was.top.work limit stop
+      → StopsApart (seen_hidden old.names old.hides) (provenance_of files) defined old.sets was.refusals.live.0 was.top.work limit stop
   turns-stop limit stop stops =
-      let at_name = phase-ready names within loop.grows loop.running loop.phase in
+      let at_name = phase-ready loop.running loop.phase in
       turn-stops names within loop.grows loop.running began at_name.0 at_name.1 later same limit stop stops

@@ -12,11 +12,14 @@ use Rattle.sc_base.specs.declared.stop.Stop.{Stop}
 use Rattle.sc_base.specs.declared.stop.Stop.TheVariants.{BranchesFull, ReadFault, OutOfMemory}
 use Rattle.sc_base.specs.declared.token.Token.{Token}
 use Rattle.sc_base.specs.Seen.{seen}
-use Rattle.sc_expand.proofs.Phases.{print_of}
 use Rattle.sc_expand.specs.Footprints.{HasFootprints, IsSameUse, ReplacesAt, StopsAtName, UsesAt, taken_behind}
 use Rattle.sc_expand.specs.Stops.{HasConfigs, StopsBy}
 use Rattle.sc_guarded.specs.Items.{items_at}
 use Rattle.sc_model.specs.Sets.{Sets}
+
+module _ {T P : Type 0} {see : T → Hidden P} {provenance : Provenance P} {macros : Macros} {s : Sets} {list : List (Cond × T)} {at : ℕ} {c : List ℕ} where
+  abbrev pub print_of : UsesAt see provenance macros s list at c → Footprint
+  print_of x = footprint x.expands
 
 same_Some : {A : Type 0} (x y : A) (o : Option A) → o ≡ Some x → o ≡ Some y → x ≡ y
 same_Some x y o is also = cc

@@ -17,8 +17,7 @@ use Rattle.sc_base.specs.declared.stop.Stop.TheVariants.{BranchesFull, ReadFault
 use Rattle.sc_base.specs.declared.token.Token.{Token}
 use Rattle.sc_base.specs.Seen.{seen, seen_place}
 use Rattle.sc_expand.proofs.Ending.{bared}
-use Rattle.sc_expand.proofs.FootprintLemmas.{pairs-both, same-use}
-use Rattle.sc_expand.proofs.Phases.{print_of}
+use Rattle.sc_expand.proofs.FootprintLemmas.{pairs-both, print_of, same-use}
 use Rattle.sc_expand.proofs.PlainPlaces.{case_of-moved, expands-moved, moved_case, stays-moved}
 use Rattle.sc_expand.proofs.TextLemmas.{places-kept, seen_hidden-begun}
 use Rattle.sc_expand.specs.Footprints.{HasFootprints, IsSameUse, ReplacesAt, StopsAtName, UsesAt, taken_behind}

@@ -187,14 +187,16 @@ module _ (provenance : Provenance Place) (macros : Macros) where
     pub record IsStep (takes : Bool) (s t : State Place) : Type 0 where
       pub step : Moves provenance macros s t ⊎ (s ≡ t)
       pub moves : takes ≡ true → Moves provenance macros s t
+      pub free : takes ≡ true → Waits macros s → ⊥
+      pub stays : takes ≡ false → s ≡ t
 
     pub progress-step : {a b : At} {takes : Bool} → Progress provenance macros old new c below later a b takes → b.live ≡ true → (a.live ≡ true → Stands old c below a.view)
         → (a.live ≡ true) × IsStep takes (state_in old below a.view c) (state_in new later b.view c)
     progress-step (rests still same stays) live stands =
         let was = sym still ∙ live in
-        (was, record { step = inr (stays was (stands was)).1; moves = λ no. absurd (true≢false (sym no)) })
+        (was, record { step = inr (stays was (stands was)).1; moves = λ no. absurd (true≢false (sym no)); free = λ no. absurd (true≢false (sym no)); stays = λ no. (stays was (stands was)).1 })
     progress-step (gone was not same) live stands = absurd (true≢false (sym live ∙ not))
-    progress-step (steps was now same free move) live stands = (was, record { step = inl (move (stands was)).1; moves = λ yes. (move (stands was)).1 })
+    progress-step (steps was now same free move) live stands = (was, record { step = inl (move (stands was)).1; moves = λ yes. (move (stands was)).1; free = λ yes. free (stands was); stays = λ no. absurd (true≢false no) })
     progress-step (ends end was not same by) live stands = absurd (true≢false (sym live ∙ not))
 
     module _ (source : List (model.Hidden Place)) where

@@ -7,7 +7,7 @@ use Rattle.c11_macros.proofs.CallEnds.{called-ends, case-in, cons-some, misfit-e
 use Rattle.c11_macros.proofs.Resuming.{leaves-source}
 use Rattle.c11_macros.proofs.RunExpands.{leaves-split, these-none}
 use Rattle.c11_macros.specs.Expansion as expansion
-use Rattle.c11_macros.specs.Expansion.{Case, asked, call_result, called, case_of, Each, Expands, misfit, next, none, object_result, replaced, stays, stops, unclosed}
+use Rattle.c11_macros.specs.Expansion.{asked, call_result, called, case_of, Each, Expands, misfit, next, none, object_result, replaced, stays, stops}
 use Rattle.c11_macros.specs.Hidden.{Failure, Hidden, Provenance, meet, with_name}
 use Rattle.c11_macros.specs.Macros.{Definition, Macros}
 use Rattle.c11_macros.specs.Results.{result_and_then}
@@ -40,7 +40,7 @@ module _ {P : Type 0} where
   divide (x ∷ xs) after (y ∷ ys) source is = let tail : xs ++ after ≡ ys ++ source = cc in divide xs after ys source tail
 
   -- nothing is taken of the second, or nothing of the first is left
-  leaves-one : {source after left rest taken : List (Hidden P)} → Leaves source after left rest taken → (taken ≡ []) ⊎ (left ≡ [])
+  pub leaves-one : {source after left rest taken : List (Hidden P)} → Leaves source after left rest taken → (taken ≡ []) ⊎ (left ≡ [])
   leaves-one (within is) = inl refl
   leaves-one (beyond is some) = inr refl
 
@@ -292,7 +292,7 @@ module _ {P : Type 0} (provenance : Provenance P) (macros : Macros) where
       )
   fails-runs source front _ failure (plain.bad_paste out work w _ all made) free at some =
       (_, _, replaces out work front w (Ok w.expanded) at (each-as {lists = w.expanded} {results = Ok w.expanded} all none).0 (subst (λ m. RescanRuns front source m [] (fails failure) no_uses) (sym made) (refused failure)))
-  fails-runs source front _ failure (plain.inside_fails out work w n {s} inner) free at some = (_, _, refuses out work front w n s failure at (fails-by provenance macros s failure inner).completes)
+  fails-runs source front _ failure (plain.inside_fails out work w n {s} inner) free at some = (_, _, refuses out work front w n s failure at (fails-by provenance macros s failure inner))
 
   -- ---- from the name on
 
@@ -312,10 +312,12 @@ module _ {P : Type 0} (provenance : Provenance P) (macros : Macros) where
     pub stands : behind ≡ taken ++ source
     pub front : List (Hidden P)
     pub bottom_is : bottom s ≡ front ++ source
+    -- the name still stands first, or it is replaced or called, or nothing is left of it
+    pub named : ((s ≡ scanning out (t ∷ behind)) × (source ≡ behind)) ⊎ ((case_of macros t behind ≡ stays → ⊥) ⊎ (IsInFront s front → ⊥))
     pub back : (done : List (Hidden P)) (end : End P) (u : Uses P) → StateRuns source s done end u → Named t behind out done end taken u
 
   pub name-start : (t : Hidden P) (behind out : List (Hidden P)) → NameReaches t behind out (scanning out (t ∷ behind)) behind
-  name-start t behind out = record { taken = []; stands = refl; front = t ∷ []; bottom_is = refl; back = by }
+  name-start t behind out = record { taken = []; stands = refl; front = t ∷ []; bottom_is = refl; named = inl (refl, refl); back = by }
     where
       by : (done : List (Hidden P)) (end : End P) (u : Uses P) → StateRuns behind (scanning out (t ∷ behind)) done end u → Named t behind out done end [] u
       by _ end u (scans_on _ _ front {done} at r) = record {
@@ -327,12 +329,46 @@ module _ {P : Type 0} (provenance : Provenance P) (macros : Macros) where
         covers = covers-same refl;
       }
 
-  onward-reaches : (t : Hidden P) (behind out source : List (Hidden P)) (s after : State P) (r : NameReaches t behind out s source) (o : Onward source s after) → NameReaches t behind out after o.later
-  onward-reaches t behind out source s after r o = record {
+  -- a name that stays leaves nothing but what stands behind it
+  named-on : (t : Hidden P) (behind out source : List (Hidden P)) (s after : State P) → Moves provenance macros s after → s ≡ scanning out (t ∷ behind) → source ≡ behind → (o : Onward source s after)
+      → (case_of macros t behind ≡ stays → ⊥) ⊎ (IsInFront after o.front → ⊥)
+  named-on t behind out source _ _ (plain.stay _ rest u is) e whole o = inr (λ some. some (by o.one))
+    where
+      none-more : (xs ys : List (Hidden P)) → ys ≡ xs ++ ys → xs ≡ []
+      none-more [] ys is = refl
+      none-more (x ∷ xs) ys is = absurd (omega (arith, ap length is, length-append xs ys))
+
+      by : (o.taken ≡ []) ⊎ (o.front ≡ []) → o.front ≡ []
+      by (inr empty) = empty
+      by (inl gone) =
+          let later : rest ≡ o.later = cc (e, whole, o.is ∙ ap (λ l. l ++ o.later) gone) in
+          none-more o.front o.later (sym later ∙ o.bottom_is)
+  named-on t behind out source _ _ (plain.object _ rest body u d is made) e whole o = inl (λ stay.
+      let first : u ≡ t = cc in
+      let same : rest ≡ behind = cc in
+      let both : replaced d ≡ stays = sym is ∙ ((λ i. case_of macros (first i) (same i)) ∙ stay) in
+      cc)
+  named-on t behind out source _ _ (plain.gather _ rest after u close d arguments template is stands) e whole o = inl (λ stay.
+      let first : u ≡ t = cc in
+      let same : rest ≡ behind = cc in
+      let both : called d arguments close after ≡ stays = sym is ∙ ((λ i. case_of macros (first i) (same i)) ∙ stay) in
+      cc)
+  named-on t behind out source _ _ (plain.enter _ work list w n others is) e whole o = absurd (cc)
+  named-on t behind out source _ _ (plain.leave _ work list w n) e whole o = absurd (cc)
+  named-on t behind out source _ _ (plain.replace _ work body w all made) e whole o = absurd (cc)
+  named-on t behind out source _ _ (plain.inside _ work w n m) e whole o = absurd (cc)
+
+  onward-reaches : (t : Hidden P) (behind out source : List (Hidden P)) (s after : State P) (r : NameReaches t behind out s source) → Moves provenance macros s after → IsInFront s r.front → (o : Onward source s after)
+      → NameReaches t behind out after o.later
+  onward-reaches t behind out source s after r m some o = record {
     taken = r.taken ++ o.taken;
     stands = r.stands ∙ (ap (λ l. r.taken ++ l) o.is ∙ sym (append_assoc r.taken o.taken o.later));
     front = o.front;
     bottom_is = o.bottom_is;
+    named = elim r.named [
+      | inl first ↦ inr (named-on t behind out source s after m first.0 first.1 o)
+      | inr later ↦ inr (elim later [ inl another ↦ inl another | inr empty ↦ absurd (empty some) ])
+    ];
     back = λ done end u q.
         let b = o.back done end u q in
         let n = r.back done end b.uses b.runs in record {
@@ -347,7 +383,7 @@ module _ {P : Type 0} (provenance : Provenance P) (macros : Macros) where
 
   pub name-move : (t : Hidden P) (behind out source : List (Hidden P)) (s after : State P) (r : NameReaches t behind out s source) → Moves provenance macros s after → (Waits macros s → ⊥) → IsInFront s r.front
       → (later : List (Hidden P)) × NameReaches t behind out after later
-  name-move t behind out source s after r m free some = let o = onward source r.front s after m free r.bottom_is some in (o.later, onward-reaches t behind out source s after r o)
+  name-move t behind out source s after r m free some = let o = onward source r.front s after m free r.bottom_is some in (o.later, onward-reaches t behind out source s after r m some o)
 
   -- ---- how many tokens of the list are left
 
@@ -377,7 +413,7 @@ module _ {P : Type 0} (provenance : Provenance P) (macros : Macros) where
   name-steps t behind out source s after r m free more =
       let some = pending-front s r.front source r.bottom_is more in
       let o = onward source r.front s after m free r.bottom_is some in
-      (o.later, onward-reaches t behind out source s after r o, sym (later-count (bottom after) o.taken o.later o.front source o.bottom_is o.is o.one))
+      (o.later, onward-reaches t behind out source s after r m some o, sym (later-count (bottom after) o.taken o.later o.front source o.bottom_is o.is o.one))
 
   -- ---- the end of the name's expansion
 

@@ -1,9 +1,8 @@
--- Configurations that expand one name with the same footprint take the same tokens of the list, and
--- have the same of what was made after each turn.
-use Rattle.std.proofs.Common.{◌≡◌, ◌⊎◌, inl, inr, ℕ, suc, ◌+◌, ◌-◌, ◌<◌, ◌≤◌, Bool, true, false, List, [], ◌∷◌, ◌++◌, codes, drop, length, map, take, slice_get, None, Some, refl, sym, ap, subst, ◌∙◌, arith}
+-- Configurations that expand one name alike take the same tokens of the list, and have the same of
+-- what was made after each turn.
+use Rattle.std.proofs.Common.{◌≡◌, ◌⊎◌, inl, inr, ℕ, suc, ◌+◌, ◌-◌, ◌<◌, ◌≤◌, Bool, true, false, List, [], ◌∷◌, ◌++◌, codes, drop, length, map, take, slice_get, Some, refl, sym, ap, subst, ◌∙◌, arith, if◌then◌else◌}
 use Rattle.std.proofs.lemmas.List.{length-append, length-map, take_all}
 use Rattle.c11_macros.specs.Expansion.{IsWithin}
-use Rattle.c11_macros.specs.Footprint.{Footprint}
 use Rattle.c11_macros.specs.Hidden as model
 use Rattle.c11_macros.specs.Macros.{Macros}
 use Rattle.c11_macros.specs.Trace.{Agree}
@@ -16,12 +15,16 @@ use Rattle.sc_expand.proofs.AlikeGathering.{same-call}
 use Rattle.sc_expand.proofs.Behind.{below, last-below, length-behind}
 use Rattle.sc_expand.proofs.GatherCases.{spellings}
 use Rattle.sc_expand.proofs.GatherPlaces.{spelled-behind}
+use Rattle.sc_expand.proofs.NameRuns.{IsInFront, StateRuns}
+use Rattle.sc_expand.proofs.NameUses.{state-looks}
 use Rattle.sc_expand.proofs.MachineLemmas.{pending_at, progress-step, stands-cases, state-top}
-use Rattle.sc_expand.proofs.PhaseCalls.{Defined, alone-moves, bare-moves, below-fewer, closed-takes, function-of, span-count, still-ends, uses-next}
-use Rattle.sc_expand.proofs.PhaseMoves.{moved-pending, state-bottom}
-use Rattle.sc_expand.proofs.Phases.{IsInside, IsReady, Phase, bound_of, last_at, print_of, state_now, taken_by}
-use Rattle.sc_expand.proofs.PlainFootprint.{UsesFrom}
+use Rattle.sc_expand.proofs.PhaseCalls.{Defined, alone-moves, bare-moves, below-fewer, closed-takes, function-of, span-count, still-ends}
+use Rattle.sc_expand.proofs.PhaseMoves.{moved-fits, moved-pending, moved-place, moved-suffix, state-bottom}
+use Rattle.sc_expand.proofs.Phases.{IsReady, Phase, Spans, bound_of, last_at, state_now}
+use Rattle.sc_expand.proofs.PhaseSpans.{IsInside, inside-span}
+use Rattle.sc_expand.proofs.PlainNames.{covers-then}
 use Rattle.sc_expand.proofs.PlainTurns.{under}
+use Rattle.sc_expand.proofs.Rests.{first-is, next-token}
 use Rattle.sc_expand.proofs.RunLemmas.{IsRunning, running-stands, turned-at}
 use Rattle.sc_expand.proofs.SpanCalls.{span-bare, span-closed, span-opened}
 use Rattle.sc_expand.specs.Alike.{CallNextAlike, DefineNextAlike, IsAlikeExpansion, IsFirstIn, IsSameCall, Others, TakesName, others_at}
@@ -34,7 +37,7 @@ use Rattle.sc_expand.specs.Having.{behind_at, tokens_in}
 use Rattle.sc_expand.specs.Machine.{IsHeldExpansion, state_in}
 use Rattle.sc_expand.specs.Plain.{Moves, State, scanning}
 use Rattle.sc_expand.specs.Running as running
-use Rattle.sc_expand.specs.Running.{IsTurned, Rest, bottom, bottom_by, last_of, next_by, next_of}
+use Rattle.sc_expand.specs.Running.{IsTurned, Rest, bottom, bottom_by, next_of}
 use Rattle.sc_expand.specs.Seen.{Grows, Stores, calls_at, provenance_of, seen_at, state_by, view_at}
 use Rattle.sc_guarded.specs.Items.{items_at}
 use Rattle.sc_hoist.specs.Alike.{AreAlike}
@@ -66,7 +69,7 @@ some-long (y ∷ ys) x first = omega arith
 module _ (files : List (List ℕ)) (macros : List ℕ → Macros) (names : List (List ℕ)) (within : (c : List ℕ) → IsWithin names (macros c)) where
   -- the whole list is on top, and the configuration's name stands first
   module _ (now : Stores) (e : Expansion) (no_below : e.below.items ≡ []) (n bound : ℕ) (few : suc n ≤ length e.top.work) (c : List ℕ) (x : TakesName now (macros c) e c)
-      (f : Footprint) (inside : IsInside files macros now e n bound f c) (pending : IsPending (state_now now e c) (last_at now e n c)) where
+      (looks : List (List ℕ)) (inside : IsInside files macros now e n bound looks c) where
     abbrev t : model.Hidden Place
     t = seen_hidden now.names now.hides x.item.1
 
@@ -104,12 +107,12 @@ module _ (files : List (List ℕ)) (macros : List ℕ → Macros) (names : List 
     pub closed-in : (d : List ℕ) → AreAlike now.sets c d (take (length e.top.work - lower_of bound n) e.top.work) → call_end_at now.sets now.names (tokens_in e.top.work) 0 c ≡ closed
         → IsSameCall now.sets now.names c d e.top.work
     closed-in d alike is =
-        let left = last_at now e n c in
-        let waits : IsPending (scanning out (t ∷ rest)) left = subst (λ s. IsPending s left) state pending in
-        let uses = subst (λ s. UsesFrom (provenance_of files) (macros c) s left f) state inside.uses in
-        let takes = closed-takes (provenance_of files) (macros c) out rest t defined x.looked_up names (within c) left f (omega (arith, waits)) uses (ap call_end (sym spelled) ∙ is) in
+        let work = ap footprint.bottom state in
+        let some = subst (λ s. IsInFront s inside.front) state inside.some in
+        let runs = subst (λ s. StateRuns (provenance_of files) (macros c) inside.left s inside.done inside.end inside.uses) state inside.runs in
+        let takes = closed-takes (provenance_of files) (macros c) out rest t defined x.looked_up inside.left inside.front (length (below (lower_of bound n) (behind_at now.sets (bottom e).work c))) (sym work ∙ inside.bottom_is) some runs inside.beyond (ap call_end (sym spelled) ∙ is) in
         let count = ap call_length spelled in
-        span-closed now.sets c d now.names (length e.top.work - lower_of bound n) e.top.work alike (omega (arith, lower)) is (omega (arith, takes, count, parts, inside.beyond))
+        span-closed now.sets c d now.names (length e.top.work - lower_of bound n) e.top.work alike (omega (arith, lower)) is (omega (arith, takes, count, parts))
 
     -- The configuration made its step, and more than its own items are left, or a call waits.
     module _ (new : Stores) (after : Expansion) (moves : Moves (provenance_of files) (macros c) (state_now now e c) (state_now new after c)) (went : Rest now new e after c)
@@ -175,25 +178,27 @@ module _ (files : List (List ℕ)) (macros : List ℕ → Macros) (names : List 
 
   module _ {old now : Stores} {was e : Expansion} (grows : Grows old now) (r : IsRunning files macros old now was e) (began : IsHeldExpansion old (length files) was) (phase : Phase files macros old now was e) (ready : IsReady files macros phase) where
     -- what they need not have alike
-    abbrev pub others_of : (c : List ℕ) (p : IsConfig old.sets.arities c) → phase.came c ≡ true → Others
-    others_of c p k = record { behind = lower_of (bound_of (phase.come c p k)) phase.n; out = phase.outs; faults = phase.faults }
+    abbrev pub others_of : ℕ → Others
+    others_of size = record { behind = lower_of (bound_of was phase.at size) phase.n; out = phase.outs; faults = phase.faults }
 
     enough : {c : List ℕ} → e.below.items ≡ [] → TakesName now (macros c) e c → suc phase.n ≤ length e.top.work
     enough no_below x = ready.below no_below x.calls (λ none. some-first e.top.work x.item x.first none)
 
-    module _ (c d : List ℕ) (p : IsConfig old.sets.arities c) (q : IsConfig old.sets.arities d) (k : phase.came c ≡ true) (l : phase.came d ≡ true)
-        (taken : taken_by (phase.come c p k) ≡ taken_by (phase.come d q l)) (agree : Agree (macros c) (macros d) (print_of (phase.come c p k)).looked_up)
+    module _ (size : ℕ) (c d : List ℕ) (p : IsConfig old.sets.arities c) (q : IsConfig old.sets.arities d) (span : Spans files macros old was phase.at size c d)
         (live : now.sets.has e.refusals.live.0 c ≡ true) (live_other : now.sets.has e.refusals.live.0 d ≡ true)
         (pending : IsPending (state_now now e c) (last_at now e phase.n c)) (pending_other : IsPending (state_now now e d) (last_at now e phase.n d)) where
-      alike-now : IsAlikeExpansion now.sets c d (others_of c p k) e
-      alike-now = phase.alike c d p q k l taken agree live live_other pending pending_other
+      inside : IsInside files macros now e phase.n (bound_of was phase.at size) span.one.uses.looked_up c
+      inside = inside-span names within phase c p live pending size d span
 
-      in-span : e.below.items ≡ [] → AreAlike now.sets c d (take (length e.top.work - (others_of c p k).behind) e.top.work)
-      in-span no_below = subst (λ (os : List Enclosing). AreAlike now.sets c d (take (length e.top.work - (others_at (others_of c p k) (length os)).behind) e.top.work)) no_below alike-now.top.work
+      alike-now : IsAlikeExpansion now.sets c d (others_of size) e
+      alike-now = phase.alike size c d p q span live live_other pending pending_other
+
+      in-span : e.below.items ≡ [] → AreAlike now.sets c d (take (length e.top.work - (others_of size).behind) e.top.work)
+      in-span no_below = subst (λ (os : List Enclosing). AreAlike now.sets c d (take (length e.top.work - (others_at (others_of size) (length os)).behind) e.top.work)) no_below alike-now.top.work
 
       in-whole : (o : Enclosing) (os : List Enclosing) → e.below.items ≡ o ∷ os → AreAlike now.sets c d e.top.work
       in-whole o os at =
-          let some = subst (λ (os : List Enclosing). AreAlike now.sets c d (take (length e.top.work - (others_at (others_of c p k) (length os)).behind) e.top.work)) at alike-now.top.work in
+          let some = subst (λ (os : List Enclosing). AreAlike now.sets c d (take (length e.top.work - (others_at (others_of size) (length os)).behind) e.top.work)) at alike-now.top.work in
           subst (AreAlike now.sets c d) (take_all (length e.top.work - 0) e.top.work (omega arith)) some
 
       -- who of both has the name that stands first, and closes its call, has the call of the other
@@ -201,7 +206,7 @@ module _ (files : List (List ℕ)) (macros : List ℕ → Macros) (names : List 
       same-called x is = by e.below.items refl
         where
           by : (os : List Enclosing) → e.below.items ≡ os → IsSameCall now.sets now.names c d e.top.work
-          by [] at = closed-in now e at phase.n (bound_of (phase.come c p k)) (enough at x) c x (print_of (phase.come c p k)) (phase.inside c p k live) pending d (in-span at) is
+          by [] at = closed-in now e at phase.n (bound_of was phase.at size) (enough at x) c x span.one.uses.looked_up inside d (in-span at) is
           by (o ∷ os) at = same-call e.top.work (in-whole o os at)
 
       -- both define the name alike that is looked up next
@@ -216,25 +221,25 @@ module _ (files : List (List ℕ)) (macros : List ℕ → Macros) (names : List 
             elim (stands-cases now c (running-stands grows r c p live)) [
               | inl top ↦
                   let below = map (pending_at now c) e.below.items in
-                  let left = last_at now e phase.n c in
-                  let f = print_of (phase.come c p k) in
                   let state : state_now now e c ≡ under below (scanning out (t ∷ rest)) = state-top now c (view_at now e.top c) top.0 ∙ ap (under below) (λ i. state_by out (work i) (calls i)) in
-                  uses-next (provenance_of files) (macros c) names (within c) below out rest t left f (subst (λ s. IsPending s left) state pending)
-                  (subst (λ s. UsesFrom (provenance_of files) (macros c) s left f) state (phase.inside c p k live).uses) (macros d) agree looks
+                  let first = state-looks (provenance_of files) (macros c) below inside.left inside.front out rest t (ap footprint.bottom (sym state) ∙ inside.bottom_is) (subst (λ s. IsInFront s inside.front) state inside.some)
+                  (subst (λ s. StateRuns (provenance_of files) (macros c) inside.left s inside.done inside.end inside.uses) state inside.runs) in
+                  let both = (covers-then inside.covers first).agree (macros c) (macros d) span.agree in
+                  (subst (λ b. Agree (macros c) (macros d) (if b then t.spelling ∷ [] else [])) looks both).0
               | inr below ↦ absurd (cons-some t rest (sym work ∙ ap (λ v. v.work) below.1))
             ];
       }
 
-      -- the token that is taken next is none of their own that the footprint leaves
-      first-in : IsFirstIn (others_of c p k) e
+      -- the token that is taken next is none of their own that stands behind the span
+      first-in : IsFirstIn (others_of size) e
       first-in = record { is = λ item first none. by e.below.items refl item first none }
         where
-          by : (os : List Enclosing) → e.below.items ≡ os → (item : Cond × Hidden) → slice_get e.top.work 0 ≡ Some item → e.top.calls.items ≡ [] → (others_at (others_of c p k) (length e.below.items)).behind < length e.top.work
+          by : (os : List Enclosing) → e.below.items ≡ os → (item : Cond × Hidden) → slice_get e.top.work 0 ≡ Some item → e.top.calls.items ≡ [] → (others_at (others_of size) (length e.below.items)).behind < length e.top.work
           by [] at item first none =
               let few : suc phase.n ≤ length e.top.work = ready.below at none (λ empty. some-first e.top.work item first empty) in
-              let low = lower-min (bound_of (phase.come c p k)) phase.n in
-              subst (λ (os : List Enclosing). (others_at (others_of c p k) (length os)).behind < length e.top.work) (sym at) (omega (arith, few, low))
-          by (o ∷ os) at item first none = subst (λ (os : List Enclosing). (others_at (others_of c p k) (length os)).behind < length e.top.work) (sym at) (some-long e.top.work item first)
+              let least = lower-min (bound_of was phase.at size) phase.n in
+              subst (λ (os : List Enclosing). (others_at (others_of size) (length os)).behind < length e.top.work) (sym at) (omega (arith, few, least))
+          by (o ∷ os) at item first none = subst (λ (os : List Enclosing). (others_at (others_of size) (length os)).behind < length e.top.work) (sym at) (some-long e.top.work item first)
 
       -- ---- after a turn
 
@@ -245,29 +250,44 @@ module _ (files : List (List ℕ)) (macros : List ℕ → Macros) (names : List 
         calls-next = record { same = λ x. by x e.below.items refl }
           where
             next : (x : TakesName now (macros c) e c) → next_of e ≡ Some x.item.0
-            next x = ap (λ ks. next_by (last_of ks) (slice_get e.top.work 0) (last_of e.below.items)) x.calls ∙ ap (λ first. next_by None first (last_of e.below.items)) x.first
+            next x = next-token e x.item (drop 1 e.top.work) x.calls (first-is e.top.work x.item x.first)
 
             by : TakesName now (macros c) e c → (os : List Enclosing) → e.below.items ≡ os → IsSameCall now.sets now.names c d e.top.work
             by x (o ∷ os) at = same-call e.top.work (in-whole o os at)
             by x [] at =
                 let step = progress-step (provenance_of files) (macros c) now new c e.below.items after.below.items (turned-at grows r began new after other same turned c p) still_live (running-stands grows r c p) in
                 let moves = step.1.moves (turned.which x.item.0 (next x) c ∙ x.has) in
-                call-same now e at phase.n (bound_of (phase.come c p k)) (enough at x) c x (print_of (phase.come c p k)) (phase.inside c p k live) pending new after moves (turned.rest c (IsConfig-Keeps grows.sets p)) still_pending d (in-span at)
+                call-same now e at phase.n (bound_of was phase.at size) (enough at x) c x span.one.uses.looked_up inside new after moves (turned.rest c (IsConfig-Keeps grows.sets p)) still_pending d (in-span at)
 
-        pub alike-after : IsAlikeExpansion new.sets c d (others_of c p k) after
-        alike-after = turned.alike c d (others_of c p k) (IsConfig-Keeps grows.sets p) (IsConfig-Keeps grows.sets q)
+        pub alike-after : IsAlikeExpansion new.sets c d (others_of size) after
+        alike-after = turned.alike c d (others_of size) (IsConfig-Keeps grows.sets p) (IsConfig-Keeps grows.sets q)
             (subst (λ m. DefineNextAlike now m (other d) c e) (sym (same c p)) (subst (λ m. DefineNextAlike now (macros c) m c e) (sym (same d q)) defines-next))
             (subst (λ m. CallNextAlike now m c d e) (sym (same c p)) calls-next) first-in alike-now
 
     -- ---- a turn
 
     module _ (new : Stores) (after : Expansion) (other : List ℕ → Macros) (same : (c : List ℕ) → IsConfig old.sets.arities c → other c ≡ macros c) {went : Bool} (turned : IsTurned files other now new e after went) where
-      pub moved-alike : (c d : List ℕ) (p : IsConfig old.sets.arities c) (q : IsConfig old.sets.arities d) (k : phase.came c ≡ true) (l : phase.came d ≡ true)
-          → taken_by (phase.come c p k) ≡ taken_by (phase.come d q l) → Agree (macros c) (macros d) (print_of (phase.come c p k)).looked_up
+      moved-alike : (size : ℕ) (c d : List ℕ) → IsConfig old.sets.arities c → IsConfig old.sets.arities d → Spans files macros old was phase.at size c d
           → new.sets.has after.refusals.live.0 c ≡ true → new.sets.has after.refusals.live.0 d ≡ true
           → IsPending (state_now new after c) (last_at new after phase.n c) → IsPending (state_now new after d) (last_at new after phase.n d)
-          → IsAlikeExpansion new.sets c d (record { behind = lower_of (bound_of (phase.come c p k)) phase.n; out = phase.outs; faults = phase.faults }) after
-      moved-alike c d p q k l taken agree live live_other pending pending_other =
+          → IsAlikeExpansion new.sets c d (others_of size) after
+      moved-alike size c d p q span live live_other pending pending_other =
           let one = moved-pending files macros grows r began phase ready new after other same turned c p live pending in
           let two = moved-pending files macros grows r began phase ready new after other same turned d q live_other pending_other in
-          alike-after c d p q k l taken agree one.0 two.0 one.1 two.1 new after other same turned live pending
+          alike-after size c d p q span one.0 two.0 one.1 two.1 new after other same turned live pending
+
+      -- A phase stays one through a turn.
+      pub phase-turned : Phase files macros old new was after
+      phase-turned = record {
+        at = phase.at;
+        n = phase.n;
+        fits = moved-fits files macros grows r began phase ready new after other same turned;
+        most = phase.most;
+        outs = phase.outs;
+        faults = phase.faults;
+        came = phase.came;
+        has = phase.has;
+        place = moved-place files macros grows r began phase ready new after other same turned;
+        suffix = moved-suffix files macros grows r began phase ready new after other same turned;
+        alike = moved-alike;
+      }

@@ -1,23 +1,20 @@
--- The call of a name that stands first in the whole list, as the footprint tells it.
-use Rattle.std.proofs.Common.{◌≡◌, ◌⊎◌, inl, inr, ℕ, zero, suc, ◌+◌, ◌-◌, ◌<◌, ◌≤◌, Bool, true, false, List, [], ◌∷◌, ◌++◌, drop, length, take, Option, Some, None, IsTrue, refl, ap, ◌∙◌, arith, if◌then◌else◌}
+-- The call of a name that stands first in the whole list, as the run of the list tells it.
+use Rattle.std.proofs.Common.{◌≡◌, ◌⊎◌, inl, inr, ℕ, zero, suc, ◌+◌, ◌-◌, ◌<◌, ◌≤◌, Bool, true, false, List, [], ◌∷◌, ◌++◌, drop, length, take, Option, Some, None, IsTrue, refl, ap, subst, ◌∙◌, arith, if◌then◌else◌}
 use Rattle.std.proofs.lemmas.Bool.{cases_lt, le-ltb, lt-ltb}
 use Rattle.std.proofs.lemmas.List.{length-append}
 use Rattle.c11_macros.specs.Call.{arguments_for}
 use Rattle.c11_macros.specs.Defines.{is_function_like}
-use Rattle.c11_macros.specs.Expansion.{IsWithin, case_of, fitted_case, is_looked_up, stays, unclosed}
-use Rattle.c11_macros.specs.Footprint.{Footprint}
+use Rattle.c11_macros.specs.Expansion.{case_of, fitted_case, is_looked_up, stays, unclosed}
 use Rattle.c11_macros.specs.Hidden.{Hidden, Provenance}
 use Rattle.c11_macros.specs.Macros.{Definition, Form, Macros, function_like, object_like}
-use Rattle.c11_macros.specs.Trace.{Agree}
+use Rattle.c11_macros.specs.Runs.{End, Uses}
 use Rattle.sc_base.specs.declared.id.Cond.{Cond}
 use Rattle.sc_expand.proofs.Behind.{below, below-items}
 use Rattle.sc_expand.proofs.GatherCases.{Closed, case-closed, case-still, case-uncalled-alone, case-uncalled-bare, closed-call, spellings}
-use Rattle.sc_expand.proofs.PlainAgreement.{agrees-name, agrees-under}
-use Rattle.sc_expand.proofs.PlainFootprint.{UsesFrom, uses-call, uses-inside, uses-misfit, uses-names}
-use Rattle.sc_expand.proofs.PlainTurns.{Pending, under}
+use Rattle.sc_expand.proofs.NameRuns.{StateRuns}
+use Rattle.sc_expand.proofs.NameUses.{Closes, state-closes}
 use Rattle.sc_expand.specs.Alike.{IsFunctionLike}
 use Rattle.sc_expand.specs.Arguments.{parted}
-use Rattle.sc_expand.specs.FootprintSteps.{IsPending}
 use Rattle.sc_expand.specs.Having.{behind_at}
 use Rattle.sc_expand.specs.Plain as plain
 use Rattle.sc_expand.specs.Plain.{Moves, State, scanning}
@@ -54,21 +51,13 @@ module _ {P : Type 0} (provenance : Provenance P) (macros : Macros) where
   unclosed-ends out rest t _ case (plain.object _ _ body _ d is made) = cc
   unclosed-ends out rest t _ case (plain.gather _ _ after _ close d arguments template is stands) = cc
 
-  -- tables that agree on the names of the footprint define what is scanned first alike
-  pub uses-next : (names : List (List ℕ)) (within : IsWithin names macros) (ps : List (Pending P)) (out rest : List (Hidden P)) (t : Hidden P) (left : ℕ) (whole : Footprint) → IsPending (under ps (scanning out (t ∷ rest))) left
-      → UsesFrom provenance macros (under ps (scanning out (t ∷ rest))) left whole → (other : Macros) → Agree macros other whole.looked_up → is_looked_up t ≡ true → macros t.spelling ≡ other t.spelling
-  uses-next names within [] out rest t left whole pending uses other agree looks = uses-names provenance macros names within out rest t left whole (omega (arith, pending)) uses other agree looks
-  uses-next names within (p ∷ ps) out rest t left whole pending uses other agree looks =
-      let inner = uses-inside provenance macros names within p.out p.work p.call p.parameter (under ps (scanning out (t ∷ rest))) left whole uses other agree in
-      agrees-name provenance macros other names within out rest t (agrees-under provenance macros other names within ps (scanning out (t ∷ rest)) inner) looks
-
   module _ (out rest : List (Hidden P)) (t : Hidden P) (d : Defined (macros t.spelling)) (looked : is_looked_up t ≡ true) where
     -- a call takes its tokens, whether its arguments fit or not
-    pub closed-takes : (names : List (List ℕ)) (within : IsWithin names macros) (left : ℕ) (whole : Footprint) → left ≤ length rest → UsesFrom provenance macros (scanning out (t ∷ rest)) left whole → call_end (spellings rest) ≡ closed
-        → whole.left + call_length (spellings rest) ≤ length rest
-    closed-takes names within left whole fits uses ends =
+    pub closed-takes : (source front : List (Hidden P)) {done : List (Hidden P)} {end : End P} {u : Uses P} (m : ℕ) → t ∷ rest ≡ front ++ source → (front ≡ [] → ⊥) → StateRuns provenance macros source (scanning out (t ∷ rest)) done end u
+        → m + length u.taken ≤ length source → call_end (spellings rest) ≡ closed → m + call_length (spellings rest) ≤ length rest
+    closed-takes source front {u = u} m is some runs beyond ends =
         let count : length rest ≡ suc (length it.between + suc (length it.after)) = ap length it.call.is ∙ ap suc (length-append it.between (it.close ∷ it.after)) in
-        omega (arith, count, few (arguments_for d.parameters d.variadic (parted (length d.parameters) 0 it.between)) case, it.long)
+        omega (arith, count, few (arguments_for d.parameters d.variadic (parted (length d.parameters) 0 it.between)) case, it.long, beyond)
       where
         it : Closed rest
         it = closed-call rest ends
@@ -76,9 +65,12 @@ module _ {P : Type 0} (provenance : Provenance P) (macros : Macros) where
         case : case_of macros t rest ≡ fitted_case d.definition it.close it.after (arguments_for d.parameters d.variadic (parted (length d.parameters) 0 it.between))
         case = case-closed macros t d.definition looked d.is d.parameters d.variadic d.formed rest it.between it.close it.after it.call
 
-        few : (o : Option (List (List (Hidden P)))) → case_of macros t rest ≡ fitted_case d.definition it.close it.after o → whole.left ≤ length it.after
-        few None case = uses-misfit provenance macros names within out rest t left whole fits uses it.after case
-        few (Some arguments) case = uses-call provenance macros names within out rest t left whole fits uses d.definition arguments it.close it.after case
+        closes : Closes provenance macros (case_of macros t rest) source u.taken
+        closes = state-closes provenance macros source front out rest t is some runs
+
+        few : (o : Option (List (List (Hidden P)))) → case_of macros t rest ≡ fitted_case d.definition it.close it.after o → length source ≤ length it.after + length u.taken
+        few None case = subst (λ k. Closes provenance macros k source u.taken) case closes
+        few (Some arguments) case = subst (λ k. Closes provenance macros k source u.taken) case closes
 
     -- one that no parenthesis closes makes no step
     pub still-ends : (s : State P) → call_end (spellings rest) ≡ still → Moves provenance macros (scanning out (t ∷ rest)) s → ⊥

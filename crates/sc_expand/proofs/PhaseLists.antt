@@ -1,17 +1,15 @@
 -- What is left of a list: its last items, and those of them that a configuration has.
-use Rattle.std.proofs.Common.{◌≡◌, ◌⊎◌, inl, inr, ℕ, zero, suc, ◌+◌, ◌-◌, ◌<◌, ◌≤◌, Bool, true, false, List, [], ◌∷◌, Some, map, take, drop, length, slice_get, refl, sym, ap, subst, ◌∙◌, arith, if◌then◌else◌}
+use Rattle.std.proofs.Common.{◌≡◌, ◌⊎◌, inl, inr, ℕ, zero, suc, ◌-◌, ◌<◌, ◌≤◌, Bool, true, false, List, [], ◌∷◌, Some, map, take, drop, length, slice_get, refl, sym, ap, subst, ◌∙◌, arith, if◌then◌else◌}
 use Rattle.std.proofs.lemmas.Bool.{cases_lt}
-use Rattle.std.proofs.lemmas.List.{drop-drop, drop_all, drop_at, length-drop, length-map, take-append-drop}
-use Rattle.c11_macros.specs.Footprint.{Arrives, begins, footprint, goes_on}
-use Rattle.c11_macros.specs.Hidden as model
-use Rattle.c11_macros.specs.Hidden.{Provenance}
-use Rattle.c11_macros.specs.Macros.{Macros}
+use Rattle.std.proofs.lemmas.List.Elements.{All-cons, All-head, All-nil, All-tail}
+use Rattle.std.proofs.lemmas.List.{drop_all, drop_at, length-drop, length-map, take-append-drop, take_all}
 use Rattle.sc_base.specs.declared.id.Cond.{Cond}
 use Rattle.sc_expand.proofs.Behind.{Fall, Fall-weaker, behind-falls, below, below-all, below-has, below-not, length-behind}
 use Rattle.sc_expand.proofs.SeenLemmas.{seen_at-append}
 use Rattle.sc_expand.specs.Having.{behind_at}
 use Rattle.sc_expand.specs.Seen.{Stores, seen_at}
 use Rattle.sc_guarded.specs.Items.{items_at}
+use Rattle.sc_hoist.specs.Alike.{AreAlike, IsAlike}
 use Rattle.sc_model.specs.Sets.{Sets}
 use Rattle.sc_subst.specs.declared.hidden.Hidden.{Hidden}
 use Rattle.sc_subst.specs.Seen.{seen_hidden}
@@ -36,13 +34,12 @@ slice-drop zero (x ∷ xs) y ys is = cc
 slice-drop (suc i) [] y ys is = absurd (cc)
 slice-drop (suc i) (x ∷ xs) y ys is = slice-drop i xs y ys is
 
--- what a list comes to is the end of it
-pub arrives-end : {P : Type 0} {provenance : Provenance P} {macros : Macros} {ts us : List (model.Hidden P)} → Arrives provenance macros ts us → (g : ℕ) × (us ≡ drop g ts)
-arrives-end begins = (0, refl)
-arrives-end {ts = ts} (goes_on {t} {rest} a d not) =
-    let it = arrives-end a in
-    let more = length rest - (footprint d).left in
-    (it.0 + 1 + more, ap (λ l. drop more (drop 1 l)) it.1 ∙ (ap (drop more) (drop-drop 1 it.0 ts) ∙ drop-drop more (it.0 + 1) ts))
+-- so many first items, as all but the others
+pub take-least : {A : Type 0} (size : ℕ) (xs : List A) → take size xs ≡ take (length xs - (length xs - size)) xs
+take-least size xs = elim (cases_lt size (length xs)) [
+  | inl less ↦ ap (λ (k : ℕ). take k xs) (omega (arith, less))
+  | inr most ↦ take_all size xs most ∙ sym (take_all (length xs - (length xs - size)) xs (omega (arith, most)))
+]
 
 -- ---- numbers that fall
 
@@ -82,6 +79,29 @@ module _ {T : Type 0} (s : Sets) (c : List ℕ) where
       by false has is =
           let falls : Fall (length rest) (m ∷ ms) = subst (Fall (length rest)) is (behind-falls s c rest) in
           absurd (omega (arith, long, falls.0))
+
+-- items of two lists that both configurations have at the same places
+first-same : (n : ℕ) (b a : Bool) (xs ys : List ℕ) → Fall n xs → Fall n ys → (if b then n ∷ xs else xs) ≡ (if a then n ∷ ys else ys) → (b ≡ a) × (xs ≡ ys)
+first-same n true true xs ys falls other same = (refl, cc)
+first-same n false false xs ys falls other same = (refl, same)
+first-same n true false xs ys falls other same = let less = subst (Fall n) (sym same) other in absurd (omega (arith, less.0))
+first-same n false true xs ys falls other same = let less = subst (Fall n) same falls in absurd (omega (arith, less.0))
+
+pub alike-behind : {T S : Type 0} (s t : Sets) (c d : List ℕ) (k : ℕ) (xs : List (Cond × T)) (ys : List (Cond × S)) → length xs ≡ length ys → behind_at s xs c ≡ behind_at t ys c → behind_at s xs d ≡ behind_at t ys d
+    → AreAlike s c d (take k xs) → AreAlike t c d (take k ys)
+alike-behind {T} {S} s t c d zero xs ys long one other alike = All-nil (λ (y : Cond × S). IsAlike t c d y.0)
+alike-behind {T} {S} s t c d (suc k) xs [] long one other alike = All-nil (λ (y : Cond × S). IsAlike t c d y.0)
+alike-behind s t c d (suc k) [] (y ∷ ys) long one other alike = absurd (omega (arith, long))
+alike-behind {T} {S} s t c d (suc k) (x ∷ xs) (y ∷ ys) long one other alike =
+    let P : Cond × T → Type 0 = λ z. IsAlike s c d z.0 in
+    let as_long : length xs ≡ length ys = omega (arith, long) in
+    let at : (e : List ℕ) → behind_at s (x ∷ xs) e ≡ behind_at t (y ∷ ys) e → (s.has x.0.0 e ≡ t.has y.0.0 e) × (behind_at s xs e ≡ behind_at t ys e)
+    = λ e same. first-same (length xs) (s.has x.0.0 e) (t.has y.0.0 e) (behind_at s xs e) (behind_at t ys e) (behind-falls s e xs) (subst (λ n. Fall n (behind_at t ys e)) (sym as_long) (behind-falls t e ys))
+    (same ∙ ap (λ n. if t.has y.0.0 e then n ∷ behind_at t ys e else behind_at t ys e) (sym as_long)) in
+    let mine = at c one in
+    let yours = at d other in
+    All-cons (λ (z : Cond × S). IsAlike t c d z.0) y (take k ys) (sym mine.0 ∙ (All-head P x (take k xs) alike ∙ yours.0))
+    (alike-behind s t c d k xs ys as_long mine.1 yours.1 (All-tail P x (take k xs) alike))
 
 -- a token for each number
 pub length-seen : (st : Stores) (list : List (Cond × Hidden)) (c : List ℕ) → length (seen_at st list c) ≡ length (behind_at st.sets list c)

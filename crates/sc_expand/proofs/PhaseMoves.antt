@@ -3,11 +3,7 @@
 use Rattle.std.proofs.Common.{◌≡◌, ◌⊎◌, inl, inr, ℕ, suc, ◌+◌, ◌<◌, ◌≤◌, nat_lt, Bool, true, false, true≢false, List, [], ◌∷◌, ◌++◌, drop, length, map, Some, None, slice_get, refl, sym, ap, subst, ◌∙◌, arith, if◌then◌else◌}
 use Rattle.std.proofs.lemmas.List.{drop-drop}
 use Rattle.std.proofs.lemmas.List.Elements.{All-pop}
-use Rattle.c11_macros.specs.Expansion as expansion
-use Rattle.c11_macros.specs.Expansion.{IsWithin, case_of}
-use Rattle.c11_macros.specs.Footprint.{Arrives, Footprint}
 use Rattle.c11_macros.specs.Hidden as model
-use Rattle.c11_macros.specs.Hidden.{Provenance}
 use Rattle.c11_macros.specs.Macros.{Macros}
 use Rattle.sc_base.specs.declared.id.Cond.{Cond}
 use Rattle.sc_base.specs.declared.place.Place.{Place}
@@ -17,9 +13,8 @@ use Rattle.sc_expand.proofs.Lower.{lower-all, lower-is, lower-min}
 use Rattle.sc_expand.proofs.Behind.{below, below-not, last-below, last-fewer, last-suffix, more-same}
 use Rattle.sc_expand.proofs.MachineCalls.{calls_at-append}
 use Rattle.sc_expand.proofs.MachineLemmas.{IsBelow, IsOnTop, alone, called_in, goes, no-move, progress-step, stands-cases, stops}
-use Rattle.sc_expand.proofs.Phases.{IsAtName, IsBetween, IsInside, IsReady, Phase, bound_of, end_of, last_at, name_of, print_of, rest_of, state_now}
-use Rattle.sc_expand.proofs.PlainEnds.{move-ends}
-use Rattle.sc_expand.proofs.PlainFootprint.{UsesFrom, uses-less, uses-move}
+use Rattle.sc_expand.proofs.Phases.{IsReady, Phase, last_at, state_now}
+use Rattle.sc_expand.proofs.Placed.{Placed, placed-move}
 use Rattle.sc_expand.proofs.Rests.{next-argument, next-call, next-token}
 use Rattle.sc_expand.proofs.RunLemmas.{IsRunning, running-stands, turned-at}
 use Rattle.sc_expand.specs.declared.call.Call.{Call}
@@ -28,12 +23,11 @@ use Rattle.sc_expand.specs.declared.frame.Enclosing.{Enclosing}
 use Rattle.sc_expand.specs.FootprintSteps as steps
 use Rattle.sc_expand.specs.FootprintSteps.{IsPending, lower_of}
 use Rattle.sc_expand.specs.Having.{behind_at}
-use Rattle.sc_expand.specs.Machine.{IsAbsent, IsHeldExpansion, Progress, Stands, at, ends, gone, no_view, rests, state_in, steps as stepped}
-use Rattle.sc_expand.specs.Plain as plain
+use Rattle.sc_expand.specs.Open as open_end
+use Rattle.sc_expand.specs.Machine.{IsAbsent, IsHeldExpansion, Stands, at, no_view, state_in}
 use Rattle.sc_expand.specs.Plain.{Moves, State, Waiting, expanding, scanning, waiting}
 use Rattle.sc_expand.specs.Running.{HasEnded, IsAsLong, IsTurned, Rest, all, bottom, bottom_by, but_first, next_of, put, took}
 use Rattle.sc_expand.specs.Seen.{Grows, Stores, View, calls_at, provenance_of, seen_at, state_by, state_of, view_at, waiting_at}
-use Rattle.sc_expand.specs.Turn.{At}
 use Rattle.sc_guarded.specs.Items.{items_at}
 use Rattle.sc_model.proofs.SetLemmas.{IsConfig-Keeps}
 use Rattle.sc_model.specs.Sets.{IsConfig, Sets}
@@ -105,28 +99,6 @@ pub record HasFirst (st : Stores) (e : Expansion) (c : List ℕ) : Type 0 where
   pub calls : e.top.calls.items ≡ []
   pub first : slice_get e.top.work 0 ≡ Some item
   pub has : st.sets.has item.0.0 c ≡ true
-
--- a name that stays leaves nothing but what stands behind it
-name-moved : {provenance : Provenance Place} {macros : Macros} {s t : State Place} → Moves provenance macros s t → (out : List (model.Hidden Place)) (name : model.Hidden Place) (behind : List (model.Hidden Place)) (last : ℕ) → s ≡ scanning out (name ∷ behind)
-    → IsPending t last → last ≡ lower_of (length (steps.bottom t)) (length behind) → case_of macros name behind ≡ expansion.stays → ⊥
-name-moved (plain.stay o rest t is) out name behind last e pending own stay =
-    let same : rest ≡ behind = cc in
-    let lower = lower-all (length rest) (length behind) (omega (arith, ap length same)) in
-    omega (arith, pending, own, lower, ap length same)
-name-moved {macros = macros} (plain.object o rest body t d is made) out name behind last e pending own stay =
-    let first : t ≡ name = cc in
-    let same : rest ≡ behind = cc in
-    let both : expansion.replaced d ≡ expansion.stays = sym is ∙ ((λ i. case_of macros (first i) (same i)) ∙ stay) in
-    absurd (cc)
-name-moved {macros = macros} (plain.gather o rest after t close d arguments template is makes) out name behind last e pending own stay =
-    let first : t ≡ name = cc in
-    let same : rest ≡ behind = cc in
-    let both : expansion.called d arguments close after ≡ expansion.stays = sym is ∙ ((λ i. case_of macros (first i) (same i)) ∙ stay) in
-    absurd (cc)
-name-moved (plain.enter o work list w n others is) out name behind last e pending own stay = absurd (cc)
-name-moved (plain.leave o work list w n) out name behind last e pending own stay = absurd (cc)
-name-moved (plain.replace o work body w is made) out name behind last e pending own stay = absurd (cc)
-name-moved (plain.inside o work w n m) out name behind last e pending own stay = absurd (cc)
 
 ends-with : {A : Type 0} (xs : List A) → (xs ≡ []) ⊎ ((front : List A) × (last : A) × (xs ≡ front ++ last ∷ []))
 ends-with [] = inl refl
@@ -250,13 +222,6 @@ module _ {now new : Stores} {e after : Expansion} {c : List ℕ} (n : ℕ) (fits
 
 -- ---- through a turn
 
-still : {provenance : Provenance Place} {macros : Macros} {old new : Stores} {c : List ℕ} {bs later : List Enclosing} {a b : At} {takes : Bool} → takes ≡ false → Progress provenance macros old new c bs later a b takes
-    → b.live ≡ true → (a.live ≡ true → Stands old c bs a.view) → state_in old bs a.view c ≡ state_in new later b.view c
-still not (rests same failures stays) live stands = let was = sym same ∙ live in (stays was (stands was)).1
-still not (gone was ended failures) live stands = absurd (true≢false (sym live ∙ ended))
-still not (stepped was now failures free move) live stands = absurd (true≢false not)
-still not (ends end was ended failures f) live stands = absurd (true≢false not)
-
 module _ (files : List (List ℕ)) (macros : List ℕ → Macros)
     {old now : Stores} {was e : Expansion} (grows : Grows old now) (r : IsRunning files macros old now was e) (began : IsHeldExpansion old (length files) was)
     (phase : Phase files macros old now was e) (ready : IsReady files macros phase) where
@@ -295,38 +260,32 @@ module _ (files : List (List ℕ)) (macros : List ℕ → Macros)
         by (all le) = omega (arith, le, phase.fits)
         by (but_first item one none first le) = let far = first-far item one none first in omega (arith, le, far)
 
-    -- what a configuration did that is still live
-    pub record HasMoved (c : List ℕ) : Type 0 where
-      pub live : now.sets.has e.refusals.live.0 c ≡ true
-      pub stands : Stands now c e.below.items (view_at now e.top c)
-      pub own : last_at new after phase.n c ≡ lower_of (length (steps.bottom (state_now new after c))) (last_at now e phase.n c)
-      pub step : (Moves (provenance_of files) (macros c) (state_now now e c) (state_now new after c) × IsPending (state_now now e c) (last_at now e phase.n c))
-          ⊎ ((state_now now e c ≡ state_now new after c) × (last_at now e phase.n c ≡ last_at new after phase.n c))
+    -- what a configuration does that is still live: a step, or nothing
+    abbrev Step : List ℕ → Type 0
+    Step c = (Moves (provenance_of files) (macros c) (state_now now e c) (state_now new after c) × IsPending (state_now now e c) (last_at now e phase.n c) × (open_end.Waits (macros c) (state_now now e c) → ⊥))
+        ⊎ ((state_now now e c ≡ state_now new after c) × (last_at now e phase.n c ≡ last_at new after phase.n c))
 
-    pub has-moved : (c : List ℕ) → IsConfig old.sets.arities c → new.sets.has after.refusals.live.0 c ≡ true → HasMoved c
+    record HasMoved (c : List ℕ) : Type 0 where
+      live : now.sets.has e.refusals.live.0 c ≡ true
+      own : last_at new after phase.n c ≡ lower_of (length (steps.bottom (state_now new after c))) (last_at now e phase.n c)
+      step : Step c
+
+    has-moved : (c : List ℕ) → IsConfig old.sets.arities c → new.sets.has after.refusals.live.0 c ≡ true → HasMoved c
     has-moved c listed live =
-        let progress = turned-at grows r began new after other same turned c listed in
         let stands = running-stands grows r c listed in
-        let s = progress-step (provenance_of files) (macros c) now new c e.below.items after.below.items progress live stands in
+        let s = progress-step (provenance_of files) (macros c) now new c e.below.items after.below.items (turned-at grows r began new after other same turned c listed) live stands in
         let own : last_at new after phase.n c ≡ lower_of (length (steps.bottom (state_now new after c))) (last_at now e phase.n c)
         = rest-own phase.n phase.fits first-far (turned.rest c (IsConfig-Keeps grows.sets listed)) ∙ ap (λ l. lower_of (length l) (last_at now e phase.n c)) (sym (state-bottom new after c)) in
-        record {
-          live = s.0;
-          stands = stands s.0;
-          own = own;
-          step = by (turned.takes c) refl progress (s.1.moves) own (stands s.0);
-        }
+        record { live = s.0; own = own; step = by (turned.takes c) refl s.1.moves s.1.free s.1.stays own (stands s.0) }
       where
-        by : (takes : Bool) → turned.takes c ≡ takes → Progress (provenance_of files) (macros c) now new c e.below.items after.below.items (at now e c) (at new after c) (turned.takes c)
-            → (turned.takes c ≡ true → Moves (provenance_of files) (macros c) (state_now now e c) (state_now new after c))
-            → last_at new after phase.n c ≡ lower_of (length (steps.bottom (state_now new after c))) (last_at now e phase.n c) → Stands now c e.below.items (view_at now e.top c)
-            → (Moves (provenance_of files) (macros c) (state_now now e c) (state_now new after c) × IsPending (state_now now e c) (last_at now e phase.n c))
-            ⊎ ((state_now now e c ≡ state_now new after c) × (last_at now e phase.n c ≡ last_at new after phase.n c))
-        by true is progress moves own stands =
+        by : (takes : Bool) → turned.takes c ≡ takes → (turned.takes c ≡ true → Moves (provenance_of files) (macros c) (state_now now e c) (state_now new after c))
+            → (turned.takes c ≡ true → open_end.Waits (macros c) (state_now now e c) → ⊥) → (turned.takes c ≡ false → state_now now e c ≡ state_now new after c)
+            → last_at new after phase.n c ≡ lower_of (length (steps.bottom (state_now new after c))) (last_at now e phase.n c) → Stands now c e.below.items (view_at now e.top c) → Step c
+        by true is moves free stays own stands =
             let m = moves is in
-            inl (m, takes-pending c (turned.takes c) (λ cond next. turned.which cond next c) is stands (λ ended. no-move m (ended-state now c e ended)))
-        by false is progress moves own stands =
-            let state = still is progress live (λ l. running-stands grows r c listed l) in
+            inl (m, takes-pending c (turned.takes c) (λ cond next. turned.which cond next c) is stands (λ ended. no-move m (ended-state now c e ended)), free is)
+        by false is moves free stays own stands =
+            let state = stays is in
             let count = ap (λ s. length (steps.bottom s)) state in
             let fits : last_at now e phase.n c ≤ length (steps.bottom (state_now new after c)) = omega (arith, count, last-fits now e phase.n c) in
             inr (state, sym (own ∙ lower-all (length (steps.bottom (state_now new after c))) (last_at now e phase.n c) fits))
@@ -336,107 +295,30 @@ module _ (files : List (List ℕ)) (macros : List ℕ → Macros)
         → (now.sets.has e.refusals.live.0 c ≡ true) × IsPending (state_now now e c) (last_at now e phase.n c)
     moved-pending c listed live pending = let m = has-moved c listed live in (m.live, by m.step)
       where
-        by : (Moves (provenance_of files) (macros c) (state_now now e c) (state_now new after c) × IsPending (state_now now e c) (last_at now e phase.n c))
-            ⊎ ((state_now now e c ≡ state_now new after c) × (last_at now e phase.n c ≡ last_at new after phase.n c)) → IsPending (state_now now e c) (last_at now e phase.n c)
+        by : Step c → IsPending (state_now now e c) (last_at now e phase.n c)
         by (inl m) = m.1
         by (inr s) = subst (λ k. IsPending (state_now now e c) k) (sym s.1) (subst (λ s. IsPending s (last_at new after phase.n c)) (sym s.0) pending)
 
-    -- who has something left of the name has it still, or has replaced it
-    pub moved-named : (c : List ℕ) (p : IsConfig old.sets.arities c) (k : phase.came c ≡ true) → new.sets.has after.refusals.live.0 c ≡ true → IsPending (state_now new after c) (last_at new after phase.n c)
-        → IsAtName files macros new after phase.n (name_of (phase.come c p k)) (rest_of (phase.come c p k)) c ⊎ (case_of (macros c) (name_of (phase.come c p k)) (rest_of (phase.come c p k)) ≡ expansion.stays → ⊥)
-    moved-named c listed k live pending =
-        let m = has-moved c listed live in
-        let before = moved-pending c listed live pending in
-        by m (phase.named c listed k before.0 before.1) m.step
+    -- where it stands in the name's expansion
+    pub moved-place : (c : List ℕ) → IsConfig old.sets.arities c → new.sets.has after.refusals.live.0 c ≡ true
+        → Placed (provenance_of files) (macros c) (seen_at old was.top.work c) (phase.came c) (length (seen_at old (drop (phase.at + 1) was.top.work) c)) (state_now new after c) (last_at new after phase.n c)
+    moved-place c listed live = let m = has-moved c listed live in by m.step m.own (phase.place c listed m.live)
       where
-        name : model.Hidden Place
-        name = name_of (phase.come c listed k)
+        list : List (model.Hidden Place)
+        list = seen_at old was.top.work c
 
-        behind : List (model.Hidden Place)
-        behind = rest_of (phase.come c listed k)
+        behind : ℕ
+        behind = length (seen_at old (drop (phase.at + 1) was.top.work) c)
 
-        by : HasMoved c → IsAtName files macros now e phase.n name behind c ⊎ (case_of (macros c) name behind ≡ expansion.stays → ⊥)
-            → (Moves (provenance_of files) (macros c) (state_now now e c) (state_now new after c) × IsPending (state_now now e c) (last_at now e phase.n c))
-            ⊎ ((state_now now e c ≡ state_now new after c) × (last_at now e phase.n c ≡ last_at new after phase.n c))
-            → IsAtName files macros new after phase.n name behind c ⊎ (case_of (macros c) name behind ≡ expansion.stays → ⊥)
-        by m (inr replaces) step = inr replaces
-        by m (inl a) (inr stays) = inl (record { out = a.out; is = sym stays.0 ∙ a.is; own = sym stays.1 ∙ a.own })
-        by m (inl a) (inl moved) = inr (name-moved moved.0 a.out name behind (last_at new after phase.n c) a.is pending (m.own ∙ ap (lower_of (length (steps.bottom (state_now new after c)))) a.own))
+        by : Step c → last_at new after phase.n c ≡ lower_of (length (steps.bottom (state_now new after c))) (last_at now e phase.n c)
+            → Placed (provenance_of files) (macros c) list (phase.came c) behind (state_now now e c) (last_at now e phase.n c) → Placed (provenance_of files) (macros c) list (phase.came c) behind (state_now new after c) (last_at new after phase.n c)
+        by (inl m) own place = placed-move (provenance_of files) (macros c) list (phase.came c) behind (last_at now e phase.n c) (last_at new after phase.n c) (state_now now e c) (state_now new after c) place m.0 m.2 m.1 own
+        by (inr s) own place = subst (λ (z : State Place × ℕ). Placed (provenance_of files) (macros c) list (phase.came c) behind z.0 z.1) (λ i. (s.0 i, s.1 i)) place
 
     -- its own items are still the last that it had
-    pub moved-suffix : (c : List ℕ) → IsConfig old.sets.arities c → new.sets.has after.refusals.live.0 c ≡ true
-        → (g : ℕ) × (below phase.n (behind_at new.sets (bottom after).work c) ≡ drop g (behind_at old.sets was.top.work c))
-    moved-suffix c listed live =
-        let before = phase.suffix c listed (has-moved c listed live).live in
-        let now_is = rest-suffix phase.n phase.fits first-far (turned.rest c (IsConfig-Keeps grows.sets listed)) phase.n (omega arith) in
-        (before.0 + now_is.0, now_is.1 ∙ (ap (drop now_is.0) before.1 ∙ drop-drop now_is.0 before.0 (behind_at old.sets was.top.work c)))
-
-    -- Between names the configuration takes no part.
-    pub moved-between : (c : List ℕ) → IsConfig old.sets.arities c → phase.came c ≡ false → new.sets.has after.refusals.live.0 c ≡ true → IsBetween files macros old new was after phase.n c
-    moved-between c listed not live = let m = has-moved c listed live in by m (phase.between c listed not m.live) m.step
-      where
-        by : HasMoved c → IsBetween files macros old now was e phase.n c
-            → (Moves (provenance_of files) (macros c) (state_now now e c) (state_now new after c) × IsPending (state_now now e c) (last_at now e phase.n c))
-            ⊎ ((state_now now e c ≡ state_now new after c) × (last_at now e phase.n c ≡ last_at new after phase.n c)) → IsBetween files macros old new was after phase.n c
-        by m between (inl moved) =
-            let more : last_at now e phase.n c < length (seen_at now (bottom e).work c) = subst (λ s. IsPending s (last_at now e phase.n c)) between.is moved.1 in
-            absurd (omega (arith, more, between.all))
-        by m between (inr stays) =
-            let work : seen_at now (bottom e).work c ≡ seen_at new (bottom after).work c = sym (state-bottom now e c) ∙ (ap steps.bottom stays.0 ∙ state-bottom new after c) in
-            record {
-              out = between.out;
-              is = sym stays.0 ∙ (between.is ∙ ap (scanning between.out) work);
-              all = sym stays.1 ∙ (between.all ∙ ap length work);
-              arrives = subst (Arrives (provenance_of files) (macros c) (seen_at old was.top.work c)) work between.arrives;
-            }
-
-    -- What is left is still the rest of the name's expansion.
-    pub moved-inside : (c : List ℕ) (p : IsConfig old.sets.arities c) (k : phase.came c ≡ true) → new.sets.has after.refusals.live.0 c ≡ true
-        → IsInside files macros new after phase.n (bound_of (phase.come c p k)) (print_of (phase.come c p k)) c
-    moved-inside c listed k live = let m = has-moved c listed live in by m (phase.inside c listed k m.live) m.step
-      where
-        bound : ℕ
-        bound = bound_of (phase.come c listed k)
-
-        whole : Footprint
-        whole = print_of (phase.come c listed k)
-
-        by : HasMoved c → IsInside files macros now e phase.n bound whole c
-            → (Moves (provenance_of files) (macros c) (state_now now e c) (state_now new after c) × IsPending (state_now now e c) (last_at now e phase.n c))
-            ⊎ ((state_now now e c ≡ state_now new after c) × (last_at now e phase.n c ≡ last_at new after phase.n c)) → IsInside files macros new after phase.n bound whole c
-        by m inside step = record {
-          uses = uses step;
-          beyond =
-              let fewer = rest-fewer phase.n phase.fits first-far (turned.rest c (IsConfig-Keeps grows.sets listed)) (lower_of bound phase.n) (omega (arith, lower-min bound phase.n)) in
-              omega (arith, fewer, inside.beyond);
-        }
-          where
-            uses : (Moves (provenance_of files) (macros c) (state_now now e c) (state_now new after c) × IsPending (state_now now e c) (last_at now e phase.n c))
-                ⊎ ((state_now now e c ≡ state_now new after c) × (last_at now e phase.n c ≡ last_at new after phase.n c)) → UsesFrom (provenance_of files) (macros c) (state_now new after c) (last_at new after phase.n c) whole
-            uses (inl moved) = subst (λ k. UsesFrom (provenance_of files) (macros c) (state_now new after c) k whole) (sym m.own)
-                (uses-move (provenance_of files) (macros c) (state_now now e c) (state_now new after c) (last_at now e phase.n c) whole moved.0 moved.1 (last-fits now e phase.n c) inside.uses)
-            uses (inr stays) = subst (λ k. UsesFrom (provenance_of files) (macros c) (state_now new after c) k whole) stays.1
-                (subst (λ s. UsesFrom (provenance_of files) (macros c) s (last_at now e phase.n c) whole) stays.0 inside.uses)
-
-    -- The tokens that the name leaves are still the last that it had.
-    pub moved-own : (names : List (List ℕ)) → ((c : List ℕ) → IsWithin names (macros c)) → (c : List ℕ) (p : IsConfig old.sets.arities c) (k : phase.came c ≡ true) → new.sets.has after.refusals.live.0 c ≡ true
-        → (g : ℕ) × (end_of (print_of (phase.come c p k)).left (seen_at new (bottom after).work c) ≡ drop g (seen_at old was.top.work c))
-    moved-own names within c listed k live =
-        let m = has-moved c listed live in
-        let before = phase.own c listed k m.live in
-        (before.0, by m (phase.inside c listed k m.live) (moved-inside c listed k live) m.step ∙ before.1)
-      where
-        left : ℕ
-        left = (print_of (phase.come c listed k)).left
-
-        by : HasMoved c → IsInside files macros now e phase.n (bound_of (phase.come c listed k)) (print_of (phase.come c listed k)) c
-            → IsInside files macros new after phase.n (bound_of (phase.come c listed k)) (print_of (phase.come c listed k)) c
-            → (Moves (provenance_of files) (macros c) (state_now now e c) (state_now new after c) × IsPending (state_now now e c) (last_at now e phase.n c))
-            ⊎ ((state_now now e c ≡ state_now new after c) × (last_at now e phase.n c ≡ last_at new after phase.n c))
-            → end_of left (seen_at new (bottom after).work c) ≡ end_of left (seen_at now (bottom e).work c)
-        by m inside later (inl moved) =
-            let less = uses-less (provenance_of files) (macros c) names (within c) (state_now now e c) (last_at now e phase.n c) (print_of (phase.come c listed k)) inside.uses in
-            let less_later = uses-less (provenance_of files) (macros c) names (within c) (state_now new after c) (last_at new after phase.n c) (print_of (phase.come c listed k)) later.uses in
-            ap (end_of left) (sym (state-bottom new after c))
-            ∙ (move-ends moved.0 (last_at now e phase.n c) left moved.1 (last-fits now e phase.n c) less (omega (arith, less_later, last-fits new after phase.n c)) ∙ ap (end_of left) (state-bottom now e c))
-        by m inside later (inr stays) = ap (end_of left) (sym (state-bottom new after c) ∙ (sym (ap steps.bottom stays.0) ∙ state-bottom now e c))
+    pub moved-suffix : (c : List ℕ) → IsConfig old.sets.arities c → new.sets.has after.refusals.live.0 c ≡ true → (m : ℕ) → m ≤ phase.n
+        → (g : ℕ) × (below m (behind_at new.sets (bottom after).work c) ≡ drop g (below m (behind_at old.sets was.top.work c)))
+    moved-suffix c listed live m le =
+        let before = phase.suffix c listed (has-moved c listed live).live m le in
+        let now_is = rest-suffix phase.n phase.fits first-far (turned.rest c (IsConfig-Keeps grows.sets listed)) m le in
+        (before.0 + now_is.0, now_is.1 ∙ (ap (drop now_is.0) before.1 ∙ drop-drop now_is.0 before.0 (below m (behind_at old.sets was.top.work c))))

@@ -1,40 +1,39 @@
 -- Where the name that stands first has so many different calls, so many configurations come to one
--- name of the list with different footprints.
-use Rattle.std.proofs.Common.{◌≡◌, ◌⊎◌, inl, inr, ℕ, ◌+◌, ◌<◌, ◌≤◌, Bool, true, false, List, [], ◌∷◌, All, Option, None, Some, drop, length, refl, sym, ap, subst, ◌∙◌, arith}
+-- name of the list that no two of them expand alike.
+use Rattle.std.proofs.Common.{◌≡◌, ◌⊎◌, inl, inr, ℕ, ◌+◌, ◌≤◌, Bool, true, false, true≢false, List, [], ◌∷◌, All, Option, None, Some, drop, length, take, refl, sym, ap, subst, ◌∙◌}
 use Rattle.c11_macros.specs.Expansion.{IsWithin, case_of, fitted_case, is_looked_up, stays}
 use Rattle.c11_macros.specs.Hidden as model
 use Rattle.c11_macros.specs.Macros.{Definition, Macros}
+use Rattle.sc_base.specs.declared.id.Cond.{Cond}
 use Rattle.sc_base.specs.declared.place.Place.{Place}
 use Rattle.sc_base.specs.declared.stop.Stop.{Stop}
 use Rattle.sc_base.specs.declared.stop.Stop.TheVariants.{BranchesFull, ReadFault, OutOfMemory}
-use Rattle.sc_expand.proofs.PhaseLists.{length-seen}
 use Rattle.sc_expand.proofs.AlikeRunning.{seen-first}
-use Rattle.sc_expand.proofs.Behind.{below}
-use Rattle.sc_expand.proofs.FootprintLemmas.{pairs-both, same-use}
+use Rattle.sc_expand.proofs.FootprintLemmas.{pairs-both}
 use Rattle.sc_expand.proofs.GatherCases.{case-closed, closed-call, spellings}
 use Rattle.sc_expand.proofs.GatherEnds.{end-behind}
 use Rattle.sc_expand.proofs.GatherTaking.{function-form}
 use Rattle.sc_expand.proofs.MachineLemmas.{IsBelow, IsOnTop, stands-cases}
 use Rattle.sc_expand.proofs.PhaseAlike.{same-called}
-use Rattle.sc_expand.proofs.PhaseMoves.{Waits, first-more, on-top, waits-pending}
-use Rattle.sc_expand.proofs.Phases.{IsAtName, IsReady, Phase, last_at, name_of, rest_of, state_now}
-use Rattle.sc_expand.proofs.Rests.{first-is}
-use Rattle.sc_expand.proofs.RunLemmas.{IsRunning, running-stands}
+use Rattle.sc_expand.proofs.PhaseMoves.{Waits, on-top, takes-pending}
+use Rattle.sc_expand.proofs.PhaseSpans.{comes, comes-named}
+use Rattle.sc_expand.proofs.Phases.{Comes, IsReady, Phase, last_at, state_now}
+use Rattle.sc_expand.proofs.Rests.{first-is, next-token}
+use Rattle.sc_expand.proofs.RunLemmas.{IsRunning, running-fewer, running-stands}
 use Rattle.sc_expand.specs.Alike.{IsFunctionLike, TakesName}
 use Rattle.sc_expand.specs.declared.expansion.Expansion.{Expansion}
-use Rattle.sc_expand.specs.declared.frame.Enclosing.{Enclosing}
-use Rattle.sc_expand.specs.Footprints.{HasFootprints, IsSameUse, StopsAtName}
+use Rattle.sc_expand.specs.Spans.{HasSpansApart, IsSpan, StopsApart}
 use Rattle.sc_expand.specs.FootprintSteps.{IsPending}
-use Rattle.sc_expand.specs.Having.{behind_at, tokens_in}
+use Rattle.sc_expand.specs.Having.{tokens_in}
 use Rattle.sc_expand.specs.Machine.{IsHeldExpansion, no_view, state_in}
 use Rattle.sc_expand.specs.Plain.{scanning}
-use Rattle.sc_expand.specs.Running.{bottom, bottom_by}
 use Rattle.sc_expand.specs.Seen.{Grows, Stores, View, calls_at, provenance_of, seen_at, state_by, view_at}
 use Rattle.sc_expand.specs.Taking.{has_first}
 use Rattle.sc_expand.specs.CallStops.{HasCalls, StopsAt}
 use Rattle.sc_hoist.specs.Calls.{call_end, call_end_at, call_places, closed}
 use Rattle.sc_model.proofs.SetLemmas.{IsConfig-kept}
 use Rattle.sc_model.specs.Sets.{IsConfig}
+use Rattle.sc_subst.specs.declared.hidden.Hidden.{Hidden}
 use Rattle.sc_subst.specs.Seen.{seen_hidden}
 use Rattle.c11_macros.proofs.CallEnds.{cons-some}
 
@@ -63,60 +62,46 @@ module _ {files : List (List ℕ)} {macros : List ℕ → Macros} (names : List 
 
   module _ (phase : Phase files macros old now was e) (ready : IsReady files macros phase) where
     -- something is left of what was made, or of the name itself
-    pub name-pending : (c : List ℕ) → IsConfig old.sets.arities c → TakesName now (macros c) e c → IsPending (state_now now e c) (last_at now e phase.n c)
-    name-pending c listed t = by (on-top now c (view_at now e.top c) (takes-on-top c listed t))
-      where
-        calls : calls_at now e.top.calls.items c ≡ []
-        calls = ap (λ l. calls_at now l c) t.calls
+    name-pending : (c : List ℕ) → IsConfig old.sets.arities c → TakesName now (macros c) e c → IsPending (state_now now e c) (last_at now e phase.n c)
+    name-pending c listed t =
+        let work = first-is e.top.work t.item t.first in
+        let next = next-token e t.item (drop 1 e.top.work) t.calls work in
+        takes-pending files macros grows r began phase ready c true (λ cond is. let same : t.item.0 ≡ cond = cc (next, is) in sym (ap (λ (k : Cond). now.sets.has k.0 c) (sym same) ∙ t.has)) refl
+        (running-stands grows r c listed t.live) (λ ended. cons-some t.item (drop 1 e.top.work) (sym work ∙ ended.work))
 
-        some : e.top.work ≡ [] → ⊥
-        some none = cons-some t.item (drop 1 e.top.work) (sym (first-is e.top.work t.item t.first) ∙ none)
-
-        by : (e.below.items ≡ []) ⊎ Waits (state_now now e c) → IsPending (state_now now e c) (last_at now e phase.n c)
-        by (inr waits) = waits-pending (state_now now e c) (last_at now e phase.n c) waits
-        by (inl none) =
-            let far : phase.n < length e.top.work = ready.below none t.calls some in
-            let fewer = first-more now.sets e.top.work t.item c phase.n t.first t.has far in
-            let count = length-seen now e.top.work c in
-            let under : last_at now e phase.n c < length (seen_at now e.top.work c) = omega (arith, fewer, count, ap (λ (bs : List Enclosing). length (below phase.n (behind_at now.sets (bottom_by bs e.top).work c))) none) in
-            let state : state_now now e c ≡ scanning (seen_at now e.top.out c) (seen_at now e.top.work c)
-            = ap (λ bs. state_in now bs (view_at now e.top c) c) none ∙ ap (state_by (seen_at now e.top.out c) (seen_at now e.top.work c)) calls in
-            subst (λ s. IsPending s (last_at now e phase.n c)) (sym state) under
-
-    -- so the configuration has come to the name
-    pub pending-came : (c : List ℕ) → IsConfig old.sets.arities c → now.sets.has e.refusals.live.0 c ≡ true → IsPending (state_now now e c) (last_at now e phase.n c) → phase.came c ≡ true
-    pending-came c listed live pending = by (phase.came c) refl
-      where
-        by : (b : Bool) → phase.came c ≡ b → b ≡ true
-        by true came = refl
-        by false came =
-            let between = phase.between c listed came live in
-            let more : last_at now e phase.n c < length (seen_at now (bottom e).work c) = subst (λ s. IsPending s (last_at now e phase.n c)) between.is pending in
-            absurd (omega (arith, more, between.all))
-
-    -- a configuration that came, and whose call is closed
-    pub record HasCome (c : List ℕ) : Type 0 where
-      pub listed : IsConfig old.sets.arities c
-      pub came : phase.came c ≡ true
-      pub takes : TakesName now (macros c) e c
-      pub ends : call_end_at now.sets now.names (tokens_in e.top.work) 0 c ≡ closed
+    -- a configuration whose call is closed
+    record HasCome (c : List ℕ) : Type 0 where
+      listed : IsConfig old.sets.arities c
+      takes : TakesName now (macros c) e c
+      ends : call_end_at now.sets now.names (tokens_in e.top.work) 0 c ≡ closed
+      pending : IsPending (state_now now e c) (last_at now e phase.n c)
 
     has-come : (other : List ℕ → Macros) (same : (c : List ℕ) → IsConfig old.sets.arities c → other c ≡ macros c) (c : List ℕ) → IsConfig now.sets.arities c → TakesName now (other c) e c
         → call_end_at now.sets now.names (tokens_in e.top.work) 0 c ≡ closed → HasCome c
     has-come other same c p t ends =
         let listed = IsConfig-kept grows.sets p in
         let takes = subst (λ (m : Macros). TakesName now m e c) (same c listed) t in
-        record { listed = listed; came = pending-came c listed t.live (name-pending c listed takes); takes = takes; ends = ends }
+        record { listed = listed; takes = takes; ends = ends; pending = name-pending c listed takes }
 
-    -- the name that it came to is replaced or called
-    come-replaces : (c : List ℕ) (h : HasCome c) → case_of (macros c) (name_of (phase.come c h.listed h.came)) (rest_of (phase.come c h.listed h.came)) ≡ stays → ⊥
-    come-replaces c h = by (phase.named c h.listed h.came h.takes.live (name-pending c h.listed h.takes))
+    was-live : (c : List ℕ) → HasCome c → old.sets.has was.refusals.live.0 c ≡ true
+    was-live c h = by (old.sets.has was.refusals.live.0 c) refl
+      where
+        by : (b : Bool) → old.sets.has was.refusals.live.0 c ≡ b → b ≡ true
+        by true is = refl
+        by false is = absurd (true≢false (sym h.takes.live ∙ running-fewer grows r c h.listed is))
+
+    -- it has come to a name, which is replaced or called
+    abbrev Coming : List ℕ → Type 0
+    Coming c = (x : Comes files macros old was phase.at c) × (case_of (macros c) (seen_hidden old.names old.hides x.item.1) (seen_at old (drop (phase.at + 1) was.top.work) c) ≡ stays → ⊥)
+
+    come-replaces : (c : List ℕ) → HasCome c → Coming c
+    come-replaces c h = (comes names within phase c h.listed h.takes.live h.pending, by (comes-named names within phase c h.listed h.takes.live h.pending))
       where
         name : model.Hidden Place
-        name = name_of (phase.come c h.listed h.came)
+        name = seen_hidden old.names old.hides (comes names within phase c h.listed h.takes.live h.pending).item.1
 
         behind : List (model.Hidden Place)
-        behind = rest_of (phase.come c h.listed h.came)
+        behind = seen_at old (drop (phase.at + 1) was.top.work) c
 
         item-is : seen_at now e.top.work c ≡ seen_hidden now.names now.hides h.takes.item.1 ∷ seen_at now (drop 1 e.top.work) c
         item-is = seen-first now c e.top.work h.takes.item h.takes.first h.takes.has
@@ -128,33 +113,31 @@ module _ {files : List (List ℕ)} {macros : List ℕ → Macros} (names : List 
             closed-replaces (macros c) name behind _ (ap (λ (t : model.Hidden Place). macros c t.spelling) (sym same)) h.takes.function (ap is_looked_up (sym same) ∙ h.takes.looked_up)
             (end-behind now e.top.work c name behind has is ∙ h.ends)
 
-        at-top : IsAtName files macros now e phase.n name behind c → (e.below.items ≡ []) ⊎ Waits (state_now now e c) → case_of (macros c) name behind ≡ stays → ⊥
-        at-top a (inr waits) = absurd (subst Waits a.is waits)
-        at-top a (inl none) =
+        at-top : (out : List (model.Hidden Place)) → state_now now e c ≡ scanning out (name ∷ behind) → (e.below.items ≡ []) ⊎ Waits (state_now now e c) → case_of (macros c) name behind ≡ stays → ⊥
+        at-top out is (inr waits) = absurd (subst Waits is waits)
+        at-top out is (inl none) =
             let calls : calls_at now e.top.calls.items c ≡ [] = ap (λ l. calls_at now l c) h.takes.calls in
             let state : state_now now e c ≡ scanning (seen_at now e.top.out c) (seen_at now e.top.work c)
             = ap (λ bs. state_in now bs (view_at now e.top c) c) none ∙ ap (state_by (seen_at now e.top.out c) (seen_at now e.top.work c)) calls in
-            first (cc (sym state ∙ a.is))
+            first (cc (sym state ∙ is))
 
-        by : IsAtName files macros now e phase.n name behind c ⊎ (case_of (macros c) name behind ≡ stays → ⊥) → case_of (macros c) name behind ≡ stays → ⊥
+        by : ((out : List (model.Hidden Place)) × (state_now now e c ≡ scanning out (name ∷ behind))) ⊎ (case_of (macros c) name behind ≡ stays → ⊥) → case_of (macros c) name behind ≡ stays → ⊥
         by (inr replaces) = replaces
-        by (inl a) = at-top a (on-top now c (view_at now e.top c) (takes-on-top c h.listed h.takes))
+        by (inl a) = at-top a.0 a.1 (on-top now c (view_at now e.top c) (takes-on-top c h.listed h.takes))
 
-    -- with different calls they have different footprints of the name that they came to
-    pub phase-stops : (other : List ℕ → Macros) → ((c : List ℕ) → IsConfig old.sets.arities c → other c ≡ macros c) → (count : ℕ) → HasCalls now.sets now.names (λ c. TakesName now (other c) e c) e.top.work count
-        → HasFootprints (seen_hidden old.names old.hides) (provenance_of files) macros old.sets was.refusals.live.0 was.top.work count
+    -- with different calls they do not expand alike the name that they came to
+    phase-stops : (other : List ℕ → Macros) → ((c : List ℕ) → IsConfig old.sets.arities c → other c ≡ macros c) → (count : ℕ) → HasCalls now.sets now.names (λ c. TakesName now (other c) e c) e.top.work count
+        → HasSpansApart (seen_hidden old.names old.hides) (provenance_of files) macros old.sets was.refusals.live.0 was.top.work count
     phase-stops other same count calls = record {
       at = phase.at;
       configs = calls.configs;
       many = calls.many;
       listed = λ k d within. (each k d within).listed;
-      has = λ k d within. let h = each k d within in phase.live _ h.listed h.came;
-      come = λ k d within. let h = each k d within in record { uses = phase.come _ h.listed h.came; replaces = come-replaces _ h };
+      has = λ k d within. was-live _ (each k d within);
+      come = λ k d within. come-replaces _ (each k d within);
       apart = pairs-both (λ c d. call_places now.sets now.names (tokens_in e.top.work) 0 c ≡ call_places now.sets now.names (tokens_in e.top.work) 0 d → ⊥)
-          (λ c d. IsSameUse (seen_hidden old.names old.hides) (provenance_of files) macros old.sets was.top.work phase.at c d → ⊥) HasCome
-          (λ c d x y apart also.
-          let both = same-use (seen_hidden old.names old.hides) (provenance_of files) (phase.come c x.listed x.came) (phase.come d y.listed y.came) also in
-          apart (same-called files macros names within grows r began phase ready c d x.listed y.listed x.came y.came both.0 both.1 x.takes.live y.takes.live (name-pending c x.listed x.takes) (name-pending d y.listed y.takes) x.takes x.ends).places)
+          (λ c d. (size : ℕ) → IsSpan (seen_hidden old.names old.hides) (provenance_of files) macros old.sets was.top.work phase.at size c d → ⊥) HasCome
+          (λ c d x y apart size span. apart (same-called files macros names within grows r began phase ready size c d x.listed y.listed span x.takes.live y.takes.live x.pending y.pending x.takes x.ends).places)
           calls.configs each calls.apart;
     }
       where
@@ -164,7 +147,7 @@ module _ {files : List (List ℕ)} {macros : List ℕ → Macros} (names : List 
     -- what stops a turn stops the expansion of a name of the list
     pub turn-stops : (other : List ℕ → Macros) → ((c : List ℕ) → IsConfig old.sets.arities c → other c ≡ macros c) → (limit : ℕ) (stop : Stop)
         → StopsAt now.sets now.names (λ c. TakesName now (other c) e c) e.top.work limit stop
-        → StopsAtName (seen_hidden old.names old.hides) (provenance_of files) macros old.sets was.refusals.live.0 was.top.work limit stop
+        → StopsApart (seen_hidden old.names old.hides) (provenance_of files) macros old.sets was.refusals.live.0 was.top.work limit stop
     turn-stops other same limit (BranchesFull count) stops = (stops.0, phase-stops other same (limit + 1) stops.1)
     turn-stops other same limit ReadFault stops = stops
     turn-stops other same limit OutOfMemory stops = tt

@@ -13,7 +13,7 @@ use Rattle.sc_expand.specs.Plain as plain
 use Rattle.sc_expand.specs.Plain.{Leads, Moves, State, Waiting, expanding, no_step, scanning, step, waiting, with_expanded}
 
 -- the name of the first token is looked up, where it is one that is not hidden
-head-taken : {P : Type 0} {provenance : Provenance P} {macros : Macros} {t : Hidden P} {rest : List (Hidden P)} {r : Result (List (Hidden P)) (Failure P)} (d : Expands provenance macros (t ∷ rest) r) → Covers (trace d).looked_up (looked_up_at t)
+pub head-taken : {P : Type 0} {provenance : Provenance P} {macros : Macros} {t : Hidden P} {rest : List (Hidden P)} {r : Result (List (Hidden P)) (Failure P)} (d : Expands provenance macros (t ∷ rest) r) → Covers (trace d).looked_up (looked_up_at t)
 head-taken {t = t} (expansion.stay is d) = covers-front (looked_up_at t) (trace d).looked_up
 head-taken {t = t} (expansion.object e is g) = covers-front (looked_up_at t) (trace_rescan g).looked_up
 head-taken {t = t} (expansion.unterminated is) = covers-front (looked_up_at t) []

@@ -1,18 +1,14 @@
 -- The arguments of a call one after the other, and its replacement with what they expand to.
-use Rattle.std.proofs.Common.{◌≡◌, ℕ, ◌+◌, ◌*◌, ◌≤◌, true, List, [], ◌∷◌, ◌++◌, append_assoc, append-nil, Result, Ok, Err, refl, sym, ap, ◌∙◌, subst, arith}
+use Rattle.std.proofs.Common.{◌≡◌, ℕ, ◌+◌, ◌*◌, ◌≤◌, List, [], ◌∷◌, ◌++◌, append_assoc, append-nil, Result, Ok, Err, refl, sym, ◌∙◌, subst, arith}
 use Rattle.c11_macros.proofs.RunExpands.{these-none}
 use Rattle.c11_macros.specs.Expansion.{Each, Expands, Rescans, next, none, refused, stops}
-use Rattle.c11_macros.specs.Footprint.{Footprint, footprint_from, with_names}
 use Rattle.c11_macros.specs.Hidden.{Failure, Hidden, Provenance}
 use Rattle.c11_macros.specs.Macros.{Macros}
 use Rattle.c11_macros.specs.Results.{result_and_then}
 use Rattle.c11_macros.specs.Runs.{after_these}
 use Rattle.c11_macros.specs.Trace.{trace, trace_each, trace_rescan}
-use Rattle.sc_expand.proofs.PlainCompletes.{Completes, Waits, looked, refuses, resumes, scanned, steps, using, waits, waits_for, waits_none}
+use Rattle.sc_expand.proofs.PlainCompletes.{Completes, Waits, looked, refuses, resumes, scanned, steps, waits, waits_for, waits_none}
 use Rattle.sc_expand.specs.Plain.{Waiting, expanding, replacement_of, scanning, waiting, with_expanded, without_first}
-
-with_names-both : (one two : List (List ℕ)) (f : Footprint) → with_names one (with_names two f) ≡ with_names (one ++ two) f
-with_names-both one two f = ap (λ names. record f { looked_up = names }) (sym (append_assoc one two f.looked_up))
 
 module _ {P : Type 0} (provenance : Provenance P) (macros : Macros) where
   abbrev Answer : Type 0
@@ -26,8 +22,8 @@ module _ {P : Type 0} (provenance : Provenance P) (macros : Macros) where
   replaced_with w results = result_and_then (λ lists. replacement_of provenance (record w { wanted = []; expanded = lists })) results
 
   -- What is left of a call's arguments expands to these lists, and the replacement with them is
-  -- scanned with the rest: in so many steps, by these names and uses.
-  pub record Supplied (out work : List (Hidden P)) (w : Waiting P) (wanted : List (ℕ × List (Hidden P))) (r : Answer) (count : ℕ) (names : List (List ℕ)) (uses : ℕ → Footprint) : Type 0 where
+  -- scanned with the rest: in so many steps, by these names.
+  pub record Supplied (out work : List (Hidden P)) (w : Waiting P) (wanted : List (ℕ × List (Hidden P))) (r : Answer) (count : ℕ) (names : List (List ℕ)) : Type 0 where
     pub results : Lists
     pub each : Each provenance macros wanted w.expanded results
     pub answer : Answer
@@ -35,7 +31,6 @@ module _ {P : Type 0} (provenance : Provenance P) (macros : Macros) where
     pub is : r ≡ after_these out answer
     pub few : count ≤ 1 + 2 * ((trace_each each).steps + (trace_rescan rescans).steps)
     pub named : names ≡ (trace_each each).looked_up ++ (trace_rescan rescans).looked_up
-    pub used : uses ≡ (λ left. with_names (trace_each each).looked_up (footprint_from left (trace_rescan rescans).uses))
 
   -- what an argument expands to alone
   record Alone (ts : List (Hidden P)) (r : Answer) (count : ℕ) (names : List (List ℕ)) : Type 0 where
@@ -51,8 +46,8 @@ module _ {P : Type 0} (provenance : Provenance P) (macros : Macros) where
   module _ (out work : List (Hidden P)) where
     -- one argument, and then the others
     argued : (w : Waiting P) (ask : ℕ × List (Hidden P)) (others : List (ℕ × List (Hidden P))) (r : Answer)
-        → ((v : Waiting P) → v.wanted ≡ others → (c : Completes provenance macros (waiting out work v) r) → Supplied out work v others r (steps c) (looked c) (using c))
-        → (c : Completes provenance macros (expanding out work (without_first w others) ask.0 (scanning [] ask.1)) r) → Supplied out work w (ask ∷ others) r (1 + steps c) (looked c) (using c)
+        → ((v : Waiting P) → v.wanted ≡ others → (c : Completes provenance macros (waiting out work v) r) → Supplied out work v others r (steps c) (looked c))
+        → (c : Completes provenance macros (expanding out work (without_first w others) ask.0 (scanning [] ask.1)) r) → Supplied out work w (ask ∷ others) r (1 + steps c) (looked c)
     argued w ask others r later (resumes o k v m s list q c d) =
         let first = alone ask.1 (Ok list) c in
         let more = later (with_expanded (without_first w others) ask.0 list) refl d in
@@ -66,11 +61,9 @@ module _ {P : Type 0} (provenance : Provenance P) (macros : Macros) where
           is = more.is;
           few = omega (arith, first.counted, more.few);
           named = (λ i. first.named i ++ more.named i) ∙ sym (append_assoc one two (trace_rescan more.rescans).looked_up);
-          used = (λ i left. with_names (first.named i) (more.used i left)) ∙ (λ i left. with_names-both one two (footprint_from left (trace_rescan more.rescans).uses) i);
         }
     argued w ask others r later (refuses o k v m s failure c) =
         let first = alone ask.1 (Err failure) c in
-        let named = first.named ∙ sym (append-nil (trace first.expands).looked_up) in
         record {
           results = Err failure;
           each = stops failure first.expands;
@@ -78,21 +71,20 @@ module _ {P : Type 0} (provenance : Provenance P) (macros : Macros) where
           rescans = refused failure;
           is = refl;
           few = omega (arith, first.counted);
-          named = named;
-          used = λ i left. record { left = left; looked_up = named i; fails = true };
+          named = first.named ∙ sym (append-nil (trace first.expands).looked_up);
         }
 
     -- no argument is left
-    all-supplied : (w : Waiting P) (r : Answer) (count : ℕ) (names : List (List ℕ)) (uses : ℕ → Footprint) → Waits provenance macros out work w [] r count names uses → Supplied out work w [] r count names uses
-    all-supplied w r count names uses (waits_none a g) = record { results = Ok w.expanded; each = none; answer = a; rescans = g; is = refl; few = omega arith; named = refl; used = refl }
+    all-supplied : (w : Waiting P) (r : Answer) (count : ℕ) (names : List (List ℕ)) → Waits provenance macros out work w [] r count names → Supplied out work w [] r count names
+    all-supplied w r count names (waits_none a g) = record { results = Ok w.expanded; each = none; answer = a; rescans = g; is = refl; few = omega arith; named = refl }
 
-    first-supplied : (w : Waiting P) (ask : ℕ × List (Hidden P)) (others : List (ℕ × List (Hidden P))) (r : Answer) (count : ℕ) (names : List (List ℕ)) (uses : ℕ → Footprint)
-        → ((v : Waiting P) → v.wanted ≡ others → (c : Completes provenance macros (waiting out work v) r) → Supplied out work v others r (steps c) (looked c) (using c))
-        → Waits provenance macros out work w (ask ∷ others) r count names uses → Supplied out work w (ask ∷ others) r count names uses
-    first-supplied w ask others r count names uses later (waits_for first rest q c) = argued w ask others r later c
+    first-supplied : (w : Waiting P) (ask : ℕ × List (Hidden P)) (others : List (ℕ × List (Hidden P))) (r : Answer) (count : ℕ) (names : List (List ℕ))
+        → ((v : Waiting P) → v.wanted ≡ others → (c : Completes provenance macros (waiting out work v) r) → Supplied out work v others r (steps c) (looked c))
+        → Waits provenance macros out work w (ask ∷ others) r count names → Supplied out work w (ask ∷ others) r count names
+    first-supplied w ask others r count names later (waits_for first rest q c) = argued w ask others r later c
 
     pub supplied : (wanted : List (ℕ × List (Hidden P))) (w : Waiting P) (r : Answer) → w.wanted ≡ wanted → (c : Completes provenance macros (waiting out work w) r)
-        → Supplied out work w wanted r (steps c) (looked c) (using c)
-    supplied [] w r is c = all-supplied w r (steps c) (looked c) (using c) (subst (λ l. Waits provenance macros out work w l r (steps c) (looked c) (using c)) is (waits c))
+        → Supplied out work w wanted r (steps c) (looked c)
+    supplied [] w r is c = all-supplied w r (steps c) (looked c) (subst (λ l. Waits provenance macros out work w l r (steps c) (looked c)) is (waits c))
     supplied (ask ∷ others) w r is c =
-        first-supplied w ask others r (steps c) (looked c) (using c) (λ v same d. supplied others v r same d) (subst (λ l. Waits provenance macros out work w l r (steps c) (looked c) (using c)) is (waits c))
+        first-supplied w ask others r (steps c) (looked c) (λ v same d. supplied others v r same d) (subst (λ l. Waits provenance macros out work w l r (steps c) (looked c)) is (waits c))

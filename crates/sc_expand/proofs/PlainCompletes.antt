@@ -1,9 +1,8 @@
 -- What a state comes to in the end, and in how many steps.
-use Rattle.std.proofs.Common.{◌≡◌, ℕ, suc, ◌+◌, ◌*◌, List, [], ◌∷◌, ◌++◌, true, Result, Ok, Err, refl, sym, ap, ◌∙◌, subst, arith}
+use Rattle.std.proofs.Common.{◌≡◌, ℕ, suc, ◌+◌, ◌*◌, List, [], ◌∷◌, ◌++◌, Result, Ok, Err, refl, sym, ap, ◌∙◌, subst, arith}
 use Rattle.c11_macros.proofs.Halting.{halts}
 use Rattle.c11_macros.proofs.OneAnswer.{one}
 use Rattle.c11_macros.specs.Expansion.{Expands, IsWithin, Rescans, on, refused}
-use Rattle.c11_macros.specs.Footprint.{Footprint, footprint_from, with_names}
 use Rattle.c11_macros.specs.Hidden.{Failure, Hidden, Provenance}
 use Rattle.c11_macros.specs.Macros.{Macros}
 use Rattle.c11_macros.specs.Runs.{after_these}
@@ -38,37 +37,27 @@ looked (asks out work w first others r some c) = looked c
 looked (resumes out work w n s list r c d) = looked c ++ looked d
 looked (refuses out work w n s failure c) = looked c
 
--- what is used until only so many tokens of the whole list are left, and nothing that replaced a
--- name
-abbrev pub using : {P : Type 0} {provenance : Provenance P} {macros : Macros} {s : State P} {r : Result (List (Hidden P)) (Failure P)} → Completes provenance macros s r → ℕ → Footprint
-using (scans out work r d) left = footprint_from left (trace d).uses
-using (replaces out work w r none g) left = footprint_from left (trace_rescan g).uses
-using (asks out work w first others r some c) left = using c left
-using (resumes out work w n s list r c d) left = with_names (looked c) (using d left)
-using (refuses out work w n s failure c) left = record { left = left; looked_up = looked c; fails = true }
-
 -- ---- what a completion is, by its state
 
-pub record Scanned {P : Type 0} (provenance : Provenance P) (macros : Macros) (out work : List (Hidden P)) (r : Result (List (Hidden P)) (Failure P)) (count : ℕ) (names : List (List ℕ)) (uses : ℕ → Footprint) : Type 0 where
+pub record Scanned {P : Type 0} (provenance : Provenance P) (macros : Macros) (out work : List (Hidden P)) (r : Result (List (Hidden P)) (Failure P)) (count : ℕ) (names : List (List ℕ)) : Type 0 where
   pub answer : Result (List (Hidden P)) (Failure P)
   pub expands : Expands provenance macros work answer
   pub is : r ≡ after_these out answer
   pub counted : count ≡ 2 * (trace expands).steps
   pub named : names ≡ (trace expands).looked_up
-  pub used : uses ≡ (λ left. footprint_from left (trace expands).uses)
 
 -- a call by the arguments that are still to be expanded
-pub data Waits {P : Type 0} (provenance : Provenance P) (macros : Macros) (out work : List (Hidden P)) (w : Waiting P) : List (ℕ × List (Hidden P)) → Result (List (Hidden P)) (Failure P) → ℕ → List (List ℕ) → (ℕ → Footprint) → Type 0 where
-  waits_none : (r : Result (List (Hidden P)) (Failure P)) (g : Rescans provenance macros (replacement_of provenance w) work r) → Waits provenance macros out work w [] (after_these out r) (1 + 2 * (trace_rescan g).steps) (trace_rescan g).looked_up (λ left. footprint_from left (trace_rescan g).uses)
+pub data Waits {P : Type 0} (provenance : Provenance P) (macros : Macros) (out work : List (Hidden P)) (w : Waiting P) : List (ℕ × List (Hidden P)) → Result (List (Hidden P)) (Failure P) → ℕ → List (List ℕ) → Type 0 where
+  waits_none : (r : Result (List (Hidden P)) (Failure P)) (g : Rescans provenance macros (replacement_of provenance w) work r) → Waits provenance macros out work w [] (after_these out r) (1 + 2 * (trace_rescan g).steps) (trace_rescan g).looked_up
   waits_for : (first : ℕ × List (Hidden P)) (others : List (ℕ × List (Hidden P))) (r : Result (List (Hidden P)) (Failure P))
-      (c : Completes provenance macros (expanding out work (without_first w others) first.0 (scanning [] first.1)) r) → Waits provenance macros out work w (first ∷ others) r (1 + steps c) (looked c) (using c)
+      (c : Completes provenance macros (expanding out work (without_first w others) first.0 (scanning [] first.1)) r) → Waits provenance macros out work w (first ∷ others) r (1 + steps c) (looked c)
 
-pub scanned : {P : Type 0} {provenance : Provenance P} {macros : Macros} {out work : List (Hidden P)} {r : Result (List (Hidden P)) (Failure P)} (c : Completes provenance macros (scanning out work) r) → Scanned provenance macros out work r (steps c) (looked c) (using c)
-scanned (scans out work r d) = record { answer = r; expands = d; is = refl; counted = refl; named = refl; used = refl }
+pub scanned : {P : Type 0} {provenance : Provenance P} {macros : Macros} {out work : List (Hidden P)} {r : Result (List (Hidden P)) (Failure P)} (c : Completes provenance macros (scanning out work) r) → Scanned provenance macros out work r (steps c) (looked c)
+scanned (scans out work r d) = record { answer = r; expands = d; is = refl; counted = refl; named = refl }
 
-pub waits : {P : Type 0} {provenance : Provenance P} {macros : Macros} {out work : List (Hidden P)} {w : Waiting P} {r : Result (List (Hidden P)) (Failure P)} (c : Completes provenance macros (waiting out work w) r) → Waits provenance macros out work w w.wanted r (steps c) (looked c) (using c)
-waits {provenance = provenance} {macros = macros} (replaces out work w r none g) = subst (λ l. Waits provenance macros out work w l (after_these out r) (1 + 2 * (trace_rescan g).steps) (trace_rescan g).looked_up (λ left. footprint_from left (trace_rescan g).uses)) (sym none) (waits_none r g)
-waits {provenance = provenance} {macros = macros} (asks out work w first others r some c) = subst (λ l. Waits provenance macros out work w l r (1 + steps c) (looked c) (using c)) (sym some) (waits_for first others r c)
+pub waits : {P : Type 0} {provenance : Provenance P} {macros : Macros} {out work : List (Hidden P)} {w : Waiting P} {r : Result (List (Hidden P)) (Failure P)} (c : Completes provenance macros (waiting out work w) r) → Waits provenance macros out work w w.wanted r (steps c) (looked c)
+waits {provenance = provenance} {macros = macros} (replaces out work w r none g) = subst (λ l. Waits provenance macros out work w l (after_these out r) (1 + 2 * (trace_rescan g).steps) (trace_rescan g).looked_up) (sym none) (waits_none r g)
+waits {provenance = provenance} {macros = macros} (asks out work w first others r some c) = subst (λ l. Waits provenance macros out work w l r (1 + steps c) (looked c)) (sym some) (waits_for first others r c)
 
 -- ---- a state has one completion
 
@@ -90,13 +79,13 @@ module _ {P : Type 0} (provenance : Provenance P) (macros : Macros) where
   same-rescan (Ok body) rest r q (on d) (on e) = one d q e
   same-rescan (Err failure) rest r q (refused f) (refused h) = record { answer = refl; trace = refl }
 
-  only-none : (out work : List (Hidden P)) (w : Waiting P) (r q : Answer) (g : Rescans provenance macros (replacement_of provenance w) work r) (count : ℕ) (names : List (List ℕ)) (uses : ℕ → Footprint) → Waits provenance macros out work w [] q count names uses
+  only-none : (out work : List (Hidden P)) (w : Waiting P) (r q : Answer) (g : Rescans provenance macros (replacement_of provenance w) work r) (count : ℕ) (names : List (List ℕ)) → Waits provenance macros out work w [] q count names
       → (after_these out r ≡ q) × (1 + 2 * (trace_rescan g).steps ≡ count)
-  only-none out work w r q g count names uses (waits_none p h) = let same = same-rescan (replacement_of provenance w) work r p g h in (ap (after_these out) same.answer, ap (λ x. 1 + 2 * x.steps) same.trace)
+  only-none out work w r q g count names (waits_none p h) = let same = same-rescan (replacement_of provenance w) work r p g h in (ap (after_these out) same.answer, ap (λ x. 1 + 2 * x.steps) same.trace)
 
-  only-for : (out work : List (Hidden P)) (w : Waiting P) (first : ℕ × List (Hidden P)) (others : List (ℕ × List (Hidden P))) (r q : Answer) (less count : ℕ) (names : List (List ℕ)) (uses : ℕ → Footprint)
-      → Only provenance macros (expanding out work (without_first w others) first.0 (scanning [] first.1)) r less → Waits provenance macros out work w (first ∷ others) q count names uses → (r ≡ q) × (1 + less ≡ count)
-  only-for out work w first others r q less count names uses only (waits_for f o p c) = let same = only p c in (same.0, ap (λ n. 1 + n) same.1)
+  only-for : (out work : List (Hidden P)) (w : Waiting P) (first : ℕ × List (Hidden P)) (others : List (ℕ × List (Hidden P))) (r q : Answer) (less count : ℕ) (names : List (List ℕ))
+      → Only provenance macros (expanding out work (without_first w others) first.0 (scanning [] first.1)) r less → Waits provenance macros out work w (first ∷ others) q count names → (r ≡ q) × (1 + less ≡ count)
+  only-for out work w first others r q less count names only (waits_for f o p c) = let same = only p c in (same.0, ap (λ n. 1 + n) same.1)
 
   only-resumes : (out work : List (Hidden P)) (w : Waiting P) (n : ℕ) (s : State P) (list : List (Hidden P)) (r q : Answer) (x y : ℕ)
       → Only provenance macros s (Ok list) x → Only provenance macros (waiting out work (with_expanded w n list)) r y
@@ -115,8 +104,8 @@ module _ {P : Type 0} (provenance : Provenance P) (macros : Macros) where
 
   pub only : {s : State P} {r : Answer} (c : Completes provenance macros s r) → Only provenance macros s r (steps c)
   only (scans out work r d) = only-scans out work r d
-  only (replaces out work w r none g) = λ q d. only-none out work w r q g (steps d) (looked d) (using d) (subst (λ l. Waits provenance macros out work w l q (steps d) (looked d) (using d)) none (waits d))
-  only (asks out work w first others r some c) = λ q d. only-for out work w first others r q (steps c) (steps d) (looked d) (using d) (only c) (subst (λ l. Waits provenance macros out work w l q (steps d) (looked d) (using d)) some (waits d))
+  only (replaces out work w r none g) = λ q d. only-none out work w r q g (steps d) (looked d) (subst (λ l. Waits provenance macros out work w l q (steps d) (looked d)) none (waits d))
+  only (asks out work w first others r some c) = λ q d. only-for out work w first others r q (steps c) (steps d) (looked d) (only c) (subst (λ l. Waits provenance macros out work w l q (steps d) (looked d)) some (waits d))
   only (resumes out work w n s list r c d) = λ q e. only-resumes out work w n s list r q (steps c) (steps d) (only c) (only d) e
   only (refuses out work w n s failure c) = λ q e. only-refuses out work w n s failure q (steps c) (only c) e
 

@@ -1,21 +1,16 @@
 -- What the state behind a step comes to, the state before it comes to as well, in more steps.
-use Rattle.std.proofs.Common.{◌≡◌, ℕ, suc, ◌*◌, ◌<◌, ◌≤◌, nat_le, Bool, true, false, List, [], ◌∷◌, ◌++◌, append_assoc, append-nil, length, length-append, map, is_ok, Result, Ok, Err, refl, sym, ap, ◌∙◌, subst, arith, if◌then◌else◌}
-use Rattle.std.proofs.lemmas.Bool.{leb-true}
+use Rattle.std.proofs.Common.{◌≡◌, ℕ, ◌*◌, ◌<◌, true, List, [], ◌∷◌, ◌++◌, append_assoc, append-nil, map, is_ok, Result, Ok, Err, refl, sym, ap, ◌∙◌, subst, arith, if◌then◌else◌}
 use Rattle.c11_macros.specs.Expansion as expansion
-use Rattle.c11_macros.specs.Expansion.{Each, Expands, Rescans, asked, call_result, called, case_of, list_of, next, none, object_result, on, refused, stops, with_first}
-use Rattle.c11_macros.specs.Footprint.{Footprint, footprint_from, with_names}
+use Rattle.c11_macros.specs.Expansion.{Each, Expands, Rescans, asked, call_result, called, case_of, list_of, none, object_result, on, refused, with_first}
 use Rattle.c11_macros.specs.Hidden.{Failure, Hidden, Provenance, failure_at, meet, with_name}
 use Rattle.c11_macros.specs.Macros.{Definition, Macros}
 use Rattle.c11_macros.specs.Results.{result_and_then}
 use Rattle.c11_macros.specs.Runs.{after_these}
 use Rattle.c11_macros.specs.Substitution.{Slot, argument, neither, parts, put_together, slots, wanted_of}
-use Rattle.c11_macros.specs.Trace as used
-use Rattle.c11_macros.specs.Trace.{Trace, Use, both, failing, looked_up_at, no_trace, trace, trace_each, trace_rescan}
-use Rattle.sc_expand.proofs.Lower.{lower-all}
+use Rattle.c11_macros.specs.Trace.{Trace, looked_up_at, no_trace, trace, trace_each, trace_rescan}
 use Rattle.sc_expand.proofs.PlainArguments.{replaced_with, supplied}
-use Rattle.sc_expand.proofs.PlainCompletes.{Completes, asks, looked, refuses, replaces, resumes, scanned, scans, steps, using}
-use Rattle.sc_expand.proofs.PlainNames.{Covers, IsRestOf, covers-back, covers-both, covers-front, covers-same, covers-then, rest-behind, rest-same, rest-then, rest-with}
-use Rattle.sc_expand.specs.FootprintSteps.{IsPending, bottom, lower_of}
+use Rattle.sc_expand.proofs.PlainCompletes.{Completes, asks, looked, refuses, replaces, resumes, scanned, scans, steps}
+use Rattle.sc_expand.proofs.PlainNames.{Covers, covers-back, covers-both, covers-front, covers-same, covers-then}
 use Rattle.sc_expand.specs.Plain as plain
 use Rattle.sc_expand.specs.Plain.{Fails, IsTemplate, Moves, State, Waiting, expanding, gathered, replacement_of, scanning, waiting, with_expanded}
 use Rattle.sc_model.specs.declared.cause.Cause.TheVariants.{UnterminatedCall, WrongArguments}
@@ -24,39 +19,11 @@ after-stay : {P : Type 0} (out : List (Hidden P)) (t : Hidden P) (r : Result (Li
 after-stay out t (Ok list) = ap Ok (sym (append_assoc out (t ∷ []) list))
 after-stay out t (Err failure) = refl
 
--- ---- what is used until only so many tokens are left
-
--- the first token is looked at where more are left
-pub past-first : (left n : ℕ) (names : List (List ℕ)) (uses : List Use) → left < suc n → footprint_from left (used.stands (suc n) ∷ used.looks_up names ∷ uses) ≡ with_names names (footprint_from left uses)
-past-first left n names uses below = by (nat_le (suc n) left) refl
-  where
-    by : (b : Bool) → nat_le (suc n) left ≡ b → (if b then record { left = left; looked_up = []; fails = false } else with_names names (footprint_from left uses)) ≡ with_names names (footprint_from left uses)
-    by true is = let over : suc n ≤ left = leb-true (suc n) left is in absurd (omega arith)
-    by false is = refl
-
-lower-rest : (n left : ℕ) (whole : Footprint) (uses : ℕ → Footprint) → left ≤ n → IsRestOf whole (uses left) → IsRestOf whole (uses (lower_of n left))
-lower-rest n left whole uses below = subst (λ m. IsRestOf whole (uses m)) (sym (lower-all n left below))
-
--- the arguments use names, and nothing of the whole list
-past-each : {P : Type 0} {provenance : Provenance P} {macros : Macros} {asks : List (ℕ × List (Hidden P))} {lists : List (List (Hidden P))} {rs : Result (List (List (Hidden P))) (Failure P)} (left : ℕ) (uses : List Use) (e : Each provenance macros asks lists rs)
-    → footprint_from left ((trace_each e).uses ++ uses) ≡ with_names (trace_each e).looked_up (footprint_from left uses)
-past-each left uses none = refl
-past-each left uses (next list d e) =
-    ap (with_names (trace d).looked_up) (past-each left uses e) ∙ ap (λ names. record (footprint_from left uses) { looked_up = names }) (sym (append_assoc (trace d).looked_up (trace_each e).looked_up (footprint_from left uses).looked_up))
-past-each left uses (stops failure d) = refl
-
--- The state completes so, in more steps than this, and looks up these names. What it uses ends as
--- this does, where so many tokens of the whole list are behind it.
-pub record Earlier {P : Type 0} (provenance : Provenance P) (macros : Macros) (s : State P) (r : Result (List (Hidden P)) (Failure P)) (count : ℕ) (names : List (List ℕ)) (uses : ℕ → Footprint) (behind : ℕ) : Type 0 where
+-- the state completes so, in more steps than this, and looks up these names
+pub record Earlier {P : Type 0} (provenance : Provenance P) (macros : Macros) (s : State P) (r : Result (List (Hidden P)) (Failure P)) (count : ℕ) (names : List (List ℕ)) : Type 0 where
   pub completes : Completes provenance macros s r
   pub longer : count < steps completes
   pub covers : Covers (looked completes) names
-  pub rests : (left : ℕ) → IsPending s left → left ≤ length (bottom s) → IsRestOf (using completes left) (uses (lower_of behind left))
-
--- the state comes to this failure, and what it uses has no answer
-pub record Failing {P : Type 0} (provenance : Provenance P) (macros : Macros) (s : State P) (failure : Failure P) : Type 0 where
-  pub completes : Completes provenance macros s (Err failure)
-  pub fails : (left : ℕ) → IsPending s left → (using completes left).fails ≡ true
 
 module _ {P : Type 0} (provenance : Provenance P) (macros : Macros) where
   abbrev Answer : Type 0
@@ -68,57 +35,43 @@ module _ {P : Type 0} (provenance : Provenance P) (macros : Macros) where
   rescans-as made other rest r same g = subst (λ m. (h : Rescans provenance macros m rest r) × (trace_rescan h ≡ trace_rescan g)) (sym same) (g, refl)
 
   -- a list's expansion, as a completion with another answer
-  earlier-by : (out work : List (Hidden P)) (r q : Answer) (count : ℕ) (names : List (List ℕ)) (uses : ℕ → Footprint) (behind : ℕ) → after_these out r ≡ q → (d : Expands provenance macros work r) → count < 2 * (trace d).steps → Covers (trace d).looked_up names
-      → ((left : ℕ) → left < length work → IsRestOf (footprint_from left (trace d).uses) (uses (lower_of behind left)))
-      → Earlier provenance macros (scanning out work) q count names uses behind
-  earlier-by out work r q count names uses behind is d less covers rests =
-      subst (λ a. Earlier provenance macros (scanning out work) a count names uses behind) is (record { completes = scans out work r d; longer = less; covers = covers; rests = λ left pending fits. rests left pending })
+  earlier-by : (out work : List (Hidden P)) (r q : Answer) (count : ℕ) (names : List (List ℕ)) → after_these out r ≡ q → (d : Expands provenance macros work r) → count < 2 * (trace d).steps → Covers (trace d).looked_up names
+      → Earlier provenance macros (scanning out work) q count names
+  earlier-by out work r q count names is d less covers = subst (λ a. Earlier provenance macros (scanning out work) a count names) is (record { completes = scans out work r d; longer = less; covers = covers })
 
-  -- behind the first token, with nothing of the whole list taken but this token
-  first-rest : (left : ℕ) (t : Hidden P) (rest : List (Hidden P)) (behind : ℕ) (uses : ℕ → Footprint) (more : Trace) → left < suc (length rest) → left ≤ behind → uses ≡ (λ left. footprint_from left more.uses)
-      → IsRestOf (footprint_from left (used.stands (suc (length rest)) ∷ used.looks_up (looked_up_at t) ∷ more.uses)) (uses (lower_of behind left))
-  first-rest left t rest behind uses more below fits same =
-      lower-rest behind left (footprint_from left (used.stands (suc (length rest)) ∷ used.looks_up (looked_up_at t) ∷ more.uses)) uses fits
-      (rest-then (rest-same (past-first left (length rest) (looked_up_at t) more.uses below)) (rest-then (rest-behind (looked_up_at t) (footprint_from left more.uses)) (rest-same (sym (ap (λ f. f left) same)))))
-
-  stay-back : (out rest : List (Hidden P)) (t : Hidden P) (r : Answer) → case_of macros t rest ≡ expansion.stays → (c : Completes provenance macros (scanning (out ++ t ∷ []) rest) r) → Earlier provenance macros (scanning out (t ∷ rest)) r (steps c) (looked c) (using c) (length rest)
+  stay-back : (out rest : List (Hidden P)) (t : Hidden P) (r : Answer) → case_of macros t rest ≡ expansion.stays → (c : Completes provenance macros (scanning (out ++ t ∷ []) rest) r) → Earlier provenance macros (scanning out (t ∷ rest)) r (steps c) (looked c)
   stay-back out rest t r is c =
       let s = scanned c in
-      earlier-by out (t ∷ rest) (with_first t s.answer) r (steps c) (looked c) (using c) (length rest) (after-stay out t s.answer ∙ sym s.is) (expansion.stay is s.expands) (omega (arith, s.counted)) (covers-then (covers-back (looked_up_at t) (trace s.expands).looked_up) (covers-same (sym s.named)))
-      (λ left below. first-rest left t rest (length rest) (using c) (trace s.expands) below (omega arith) s.used)
+      earlier-by out (t ∷ rest) (with_first t s.answer) r (steps c) (looked c) (after-stay out t s.answer ∙ sym s.is) (expansion.stay is s.expands) (omega (arith, s.counted)) (covers-then (covers-back (looked_up_at t) (trace s.expands).looked_up) (covers-same (sym s.named)))
 
   object-back : (out rest body : List (Hidden P)) (t : Hidden P) (d : Definition) (r : Answer) → case_of macros t rest ≡ expansion.replaced d → object_result provenance d t ≡ Ok body
-      → (c : Completes provenance macros (scanning out (body ++ rest)) r) → Earlier provenance macros (scanning out (t ∷ rest)) r (steps c) (looked c) (using c) (length (body ++ rest))
+      → (c : Completes provenance macros (scanning out (body ++ rest)) r) → Earlier provenance macros (scanning out (t ∷ rest)) r (steps c) (looked c)
   object-back out rest body t d r is made c =
       let s = scanned c in
       let g = rescans-as (object_result provenance d t) (Ok body) rest s.answer made (on s.expands) in
-      earlier-by out (t ∷ rest) s.answer r (steps c) (looked c) (using c) (length (body ++ rest)) (sym s.is) (expansion.object d is g.0) (omega (arith, s.counted, ap (λ x. x.steps) g.1))
+      earlier-by out (t ∷ rest) s.answer r (steps c) (looked c) (sym s.is) (expansion.object d is g.0) (omega (arith, s.counted, ap (λ x. x.steps) g.1))
       (covers-then (covers-back (looked_up_at t) (trace_rescan g.0).looked_up) (covers-same (ap (λ x. x.looked_up) g.1 ∙ sym s.named)))
-      (λ left below. first-rest left t rest (length (body ++ rest)) (using c) (trace_rescan g.0) below (omega (arith, length-append body rest)) (s.used ∙ sym (ap {B = ℕ → Footprint} (λ (x : Trace) left. footprint_from left x.uses) g.1)))
 
   replace-back : (out work body : List (Hidden P)) (w : Waiting P) (r : Answer) → w.wanted ≡ [] → replacement_of provenance w ≡ Ok body → (c : Completes provenance macros (scanning out (body ++ work)) r)
-      → Earlier provenance macros (waiting out work w) r (steps c) (looked c) (using c) (length (body ++ work))
+      → Earlier provenance macros (waiting out work w) r (steps c) (looked c)
   replace-back out work body w r all made c =
       let s = scanned c in
       let g = rescans-as (replacement_of provenance w) (Ok body) work s.answer made (on s.expands) in
-      subst (λ a. Earlier provenance macros (waiting out work w) a (steps c) (looked c) (using c) (length (body ++ work))) (sym s.is)
+      subst (λ a. Earlier provenance macros (waiting out work w) a (steps c) (looked c)) (sym s.is)
       (record {
         completes = replaces out work w s.answer all g.0;
         longer = omega (arith, s.counted, ap (λ x. x.steps) g.1);
         covers = covers-same (ap (λ x. x.looked_up) g.1 ∙ sym s.named);
-        rests = λ left pending fits. lower-rest (length (body ++ work)) left (footprint_from left (trace_rescan g.0).uses) (using c) (omega (arith, length-append body work))
-            (rest-same (ap (λ (x : Trace). footprint_from left x.uses) g.1 ∙ sym (ap (λ f. f left) s.used)));
       })
 
   leave-back : (out work list : List (Hidden P)) (w : Waiting P) (n : ℕ) (r : Answer) (c : Completes provenance macros (waiting out work (with_expanded w n list)) r)
-      → Earlier provenance macros (expanding out work w n (scanning list [])) r (steps c) (looked c) (using c) (length work)
+      → Earlier provenance macros (expanding out work w n (scanning list [])) r (steps c) (looked c)
   leave-back out work list w n r c =
       let inner = subst (λ l. Completes provenance macros (scanning list []) (Ok l)) (append-nil list) (scans list [] (Ok []) expansion.empty) in
       record {
         completes = resumes out work w n (scanning list []) list r inner c;
         longer = omega arith;
         covers = covers-back (looked inner) (looked c);
-        rests = λ left pending fits. lower-rest (length work) left (with_names (looked inner) (using c left)) (using c) fits (rest-behind (looked inner) (using c left));
       }
 
   -- the arguments that are asked for, where no # fails
@@ -130,48 +83,37 @@ module _ {P : Type 0} (provenance : Provenance P) (macros : Macros) where
       let same : asked provenance d t arguments ≡ all = ap (λ b. if b then all else []) is in
       subst (λ l. (f : Each provenance macros l (map (λ a. []) arguments) results) × (trace_each f ≡ trace_each e)) (sym same) (e, refl)
 
-  -- a call is taken, and its arguments and what it becomes use the rest of this
-  call-rest : (left n : ℕ) (t : Hidden P) (rest : List (Hidden P)) {asks : List (ℕ × List (Hidden P))} {lists : List (List (Hidden P))} {results : Result (List (List (Hidden P))) (Failure P)} (e : Each provenance macros asks lists results) (x : Trace) (f : Footprint)
-      → left < suc (length rest) → with_names (trace_each e).looked_up (footprint_from (lower_of n left) x.uses) ≡ f
-      → IsRestOf (footprint_from left (used.stands (suc (length rest)) ∷ used.looks_up (looked_up_at t) ∷ used.takes n ∷ (trace_each e).uses ++ x.uses)) f
-  call-rest left n t rest e x f below same =
-      rest-then (rest-same (past-first left (length rest) (looked_up_at t) (used.takes n ∷ (trace_each e).uses ++ x.uses) below))
-      (rest-then (rest-behind (looked_up_at t) (footprint_from (lower_of n left) ((trace_each e).uses ++ x.uses))) (rest-same (past-each (lower_of n left) x.uses e ∙ same)))
-
   -- a call as its arguments expand
   gather-back : (out rest after : List (Hidden P)) (t close : Hidden P) (d : Definition) (arguments : List (List (Hidden P))) (template : Result (List (Slot P)) (Failure P)) (r : Answer)
       → case_of macros t rest ≡ called d arguments close after → IsTemplate provenance d t arguments template
-      → (c : Completes provenance macros (waiting out after (gathered provenance d t arguments close template)) r) → Earlier provenance macros (scanning out (t ∷ rest)) r (steps c) (looked c) (using c) (length after)
+      → (c : Completes provenance macros (waiting out after (gathered provenance d t arguments close template)) r) → Earlier provenance macros (scanning out (t ∷ rest)) r (steps c) (looked c)
   gather-back out rest after t close d arguments template r is stands c =
       let w = gathered provenance d t arguments close template in
       let s = supplied provenance macros out after w.wanted w r refl c in
       let e = asked-each d t arguments s.results stands.stringized s.each in
       let g = rescans-as (call_result provenance d t arguments close s.results) (replaced_with provenance macros w s.results) after s.answer (λ i. result_and_then (λ lists. stands.completes lists w.names i) s.results) s.rescans in
       let names = (trace_each e.0).looked_up ++ (trace_rescan g.0).looked_up in
-      earlier-by out (t ∷ rest) s.answer r (steps c) (looked c) (using c) (length after) (sym s.is) (expansion.call d arguments close after s.results is e.0 g.0)
+      earlier-by out (t ∷ rest) s.answer r (steps c) (looked c) (sym s.is) (expansion.call d arguments close after s.results is e.0 g.0)
       (omega (arith, s.few, ap (λ (x : Trace). x.steps) e.1, ap (λ (x : Trace). x.steps) g.1))
       (covers-then (covers-back (looked_up_at t ++ []) names) (covers-same {xs = names} {ys = looked c} ((λ i. (e.1 i).looked_up ++ (g.1 i).looked_up) ∙ sym s.named)))
-      (λ left below. call-rest left (length after) t rest e.0 (trace_rescan g.0) (using c (lower_of (length after) left)) below
-      ((λ i. with_names (e.1 i).looked_up (footprint_from (lower_of (length after) left) (g.1 i).uses)) ∙ sym (ap (λ f. f (lower_of (length after) left)) s.used)))
 
-  pub move-back : (s t : State P) → Moves provenance macros s t → (r : Answer) (c : Completes provenance macros t r) → Earlier provenance macros s r (steps c) (looked c) (using c) (length (bottom t))
+  pub move-back : (s t : State P) → Moves provenance macros s t → (r : Answer) (c : Completes provenance macros t r) → Earlier provenance macros s r (steps c) (looked c)
   move-back _ _ (plain.stay out rest t is) r c = stay-back out rest t r is c
   move-back _ _ (plain.object out rest body t d is made) r c = object-back out rest body t d r is made c
   move-back _ _ (plain.gather out rest after t close d arguments template is stands) r c = gather-back out rest after t close d arguments template r is stands c
-  move-back _ _ (plain.enter out work list w n others is) r c = record { completes = asks out work w (n, list) others r is c; longer = omega arith; covers = covers-same refl; rests = λ left pending fits. lower-rest (length work) left (using c left) (using c) fits (rest-same refl) }
+  move-back _ _ (plain.enter out work list w n others is) r c = record { completes = asks out work w (n, list) others r is c; longer = omega arith; covers = covers-same refl }
   move-back _ _ (plain.leave out work list w n) r c = leave-back out work list w n r c
   move-back _ _ (plain.replace out work body w all made) r c = replace-back out work body w r all made c
   move-back _ _ (plain.inside out work w n {s} {t} m) r c = inside-back out work w n s t r (move-back s t m) c
     where
-      inside-back : (out work : List (Hidden P)) (w : Waiting P) (n : ℕ) (s t : State P) (r : Answer) → ((q : Answer) (c : Completes provenance macros t q) → Earlier provenance macros s q (steps c) (looked c) (using c) (length (bottom t)))
-          → (c : Completes provenance macros (expanding out work w n t) r) → Earlier provenance macros (expanding out work w n s) r (steps c) (looked c) (using c) (length work)
+      inside-back : (out work : List (Hidden P)) (w : Waiting P) (n : ℕ) (s t : State P) (r : Answer) → ((q : Answer) (c : Completes provenance macros t q) → Earlier provenance macros s q (steps c) (looked c))
+          → (c : Completes provenance macros (expanding out work w n t) r) → Earlier provenance macros (expanding out work w n s) r (steps c) (looked c)
       inside-back out work w n s t r back (resumes o k v m u list q c d) =
           let e = back (Ok list) c in
           record {
             completes = resumes out work w n s list r e.completes d;
             longer = omega (arith, e.longer);
             covers = covers-both (covers-then (covers-front (looked e.completes) (looked d)) e.covers) (covers-back (looked e.completes) (looked d));
-            rests = λ left pending fits. lower-rest (length work) left (with_names (looked e.completes) (using d left)) (λ n. with_names (looked c) (using d n)) fits (rest-with e.covers (rest-same refl));
           }
       inside-back out work w n s t r back (refuses o k v m u failure c) =
           let e = back (Err failure) c in
@@ -179,18 +121,9 @@ module _ {P : Type 0} (provenance : Provenance P) (macros : Macros) where
             completes = refuses out work w n s failure e.completes;
             longer = omega (arith, e.longer);
             covers = e.covers;
-            rests = λ left pending fits.
-                lower-rest (length work) left (record { left = left; looked_up = looked e.completes; fails = true }) (λ n. record { left = n; looked_up = looked c; fails = true }) fits
-                (record { left = refl; fails = refl; covers = e.covers });
           }
 
   -- ---- failures
-
-  -- a call whose replacement fails
-  call-fails : (left n : ℕ) (t : Hidden P) (rest : List (Hidden P)) (x : Trace) → left < suc (length rest) → x ≡ failing
-      → (footprint_from left (used.stands (suc (length rest)) ∷ used.looks_up (looked_up_at t) ∷ used.takes n ∷ x.uses)).fails ≡ true
-  call-fails left n t rest x below is =
-      ap (λ (f : Footprint). f.fails) (past-first left (length rest) (looked_up_at t) (used.takes n ∷ x.uses) below) ∙ ap (λ (y : Trace). (footprint_from (lower_of n left) y.uses).fails) is
 
   -- no argument is asked for where a # fails
   pub none-asked : (d : Definition) (t : Hidden P) (arguments : List (List (Hidden P))) (failure : Failure P) → slots t arguments (parts d.form neither (list_of provenance d t)) ≡ Err failure
@@ -199,31 +132,19 @@ module _ {P : Type 0} (provenance : Provenance P) (macros : Macros) where
       let same : asked provenance d t arguments ≡ [] = ap (λ made. if is_ok made then map (λ n. (n, argument arguments n)) (wanted_of d.form (list_of provenance d t)) else []) is in
       subst (λ l. (e : Each provenance macros l (map (λ a. []) arguments) (Ok (map (λ a. []) arguments))) × (trace_each e ≡ no_trace)) (sym same) (none, refl)
 
-  pub fails-by : (s : State P) (failure : Failure P) → Fails provenance macros s failure → Failing provenance macros s failure
+  -- the state comes to this failure
+  pub fails-by : (s : State P) (failure : Failure P) → Fails provenance macros s failure → Completes provenance macros s (Err failure)
   fails-by _ _ (plain.bad_object out rest t d failure is made) =
       let g = rescans-as (object_result provenance d t) (Err failure) rest (Err failure) made (refused failure) in
-      record {
-        completes = scans out (t ∷ rest) (Err failure) (expansion.object d is g.0);
-        fails = λ left pending. ap (λ (f : Footprint). f.fails) (past-first left (length rest) (looked_up_at t) (trace_rescan g.0).uses pending) ∙ ap (λ (x : Trace). (footprint_from left x.uses).fails) g.1;
-      }
-  fails-by _ _ (plain.open_call out rest t is) = record {
-    completes = scans out (t ∷ rest) (Err (failure_at UnterminatedCall t)) (expansion.unterminated is);
-    fails = λ left pending. ap (λ (f : Footprint). f.fails) (past-first left (length rest) (looked_up_at t) failing.uses pending);
-  }
-  fails-by _ _ (plain.miscounted out rest after t is) = record {
-    completes = scans out (t ∷ rest) (Err (failure_at WrongArguments t)) (expansion.miscounted after is);
-    fails = λ left pending. call-fails left (length after) t rest failing pending refl;
-  }
+      scans out (t ∷ rest) (Err failure) (expansion.object d is g.0)
+  fails-by _ _ (plain.open_call out rest t is) = scans out (t ∷ rest) (Err (failure_at UnterminatedCall t)) (expansion.unterminated is)
+  fails-by _ _ (plain.miscounted out rest after t is) = scans out (t ∷ rest) (Err (failure_at WrongArguments t)) (expansion.miscounted after is)
   fails-by _ _ (plain.bad_stringize out rest after t close d arguments failure is hash) =
-      let e = none-asked d t arguments failure hash in
       let lists = map (λ (a : List (Hidden P)). []) arguments in
       let made : call_result provenance d t arguments close (Ok lists) ≡ Err failure = ap (result_and_then (put_together provenance t arguments lists (with_name (meet t.hide close.hide) t.spelling))) hash in
       let g = rescans-as (call_result provenance d t arguments close (Ok lists)) (Err failure) after (Err failure) made (refused failure) in
-      record {
-        completes = scans out (t ∷ rest) (Err failure) (expansion.call d arguments close after (Ok lists) is e.0 g.0);
-        fails = λ left pending. call-fails left (length after) t rest (both (trace_each e.0) (trace_rescan g.0)) pending (λ i. both (e.1 i) (g.1 i));
-      }
+      scans out (t ∷ rest) (Err failure) (expansion.call d arguments close after (Ok lists) is (none-asked d t arguments failure hash).0 g.0)
   fails-by _ _ (plain.bad_paste out work w failure all made) =
       let g = rescans-as (replacement_of provenance w) (Err failure) work (Err failure) made (refused failure) in
-      record { completes = replaces out work w (Err failure) all g.0; fails = λ left pending. ap (λ (x : Trace). (footprint_from left x.uses).fails) g.1 }
-  fails-by _ _ (plain.inside_fails out work w n {s} {failure} inner) = record { completes = refuses out work w n s failure (fails-by s failure inner).completes; fails = λ left pending. refl }
+      replaces out work w (Err failure) all g.0
+  fails-by _ _ (plain.inside_fails out work w n {s} {failure} inner) = refuses out work w n s failure (fails-by s failure inner)

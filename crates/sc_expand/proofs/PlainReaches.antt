@@ -27,7 +27,7 @@ module _ {P : Type 0} (provenance : Provenance P) (macros : Macros) where
   reaches-move source s t reaches m = record { back = λ r c. reaches.back r (move-back provenance macros s t m r c).completes }
 
   pub reaches-fail : (source : List (Hidden P)) (s : State P) (failure : Failure P) → Reaches source s → Fails provenance macros s failure → Expands provenance macros source (Err failure)
-  reaches-fail source s failure reaches f = reaches.back (Err failure) (fails-by provenance macros s failure f).completes
+  reaches-fail source s failure reaches f = reaches.back (Err failure) (fails-by provenance macros s failure f)
 
   pub reaches-leads : (source : List (Hidden P)) (s t : State P) → Reaches source s → Leads provenance macros s t → Reaches source t
   reaches-leads source s _ reaches no_step = reaches

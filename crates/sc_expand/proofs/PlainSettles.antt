@@ -3,11 +3,11 @@
 use Rattle.std.proofs.Common.{◌≡◌, List, [], ◌∷◌, ◌++◌, append-nil, length, refl, sym, ap, ◌∙◌, subst, arith}
 use Rattle.c11_macros.specs.Hidden.{Failure, Hidden, Provenance}
 use Rattle.c11_macros.specs.Macros.{Macros}
-use Rattle.c11_macros.specs.Runs.{Passes, begins, goes_on, Settles, whole, open_end, IsHeld, held, fails}
+use Rattle.c11_macros.specs.Runs.{Passes, begins, goes_on, Runs, Settles, Uses, whole, open_end, IsHeld, held, fails, over}
 use Rattle.sc_expand.proofs.NameRuns.{IsInFront, NameReaches, fails-runs, name-move, name-over, name-start, name-waits}
 use Rattle.sc_expand.specs.Open.{LeadsOn, Waits, alone, no_step, open_call, step}
 use Rattle.sc_expand.specs.Plain as plain
-use Rattle.sc_expand.specs.Plain.{Fails, Moves, State, Waiting, expanding, scanning, waiting}
+use Rattle.sc_expand.specs.Plain.{Fails, Moves, State, expanding, scanning, waiting}
 
 module _ {P : Type 0} (provenance : Provenance P) (macros : Macros) where
   -- a name is being expanded
@@ -62,20 +62,26 @@ module _ {P : Type 0} (provenance : Provenance P) (macros : Macros) where
 
   -- ---- a step
 
-  -- where nothing of the name is left, it was passed
-  passed : (source out name_out behind work left : List (Hidden P)) (t : Hidden P) → Passes provenance macros source name_out (t ∷ behind) → NameReaches provenance macros t behind name_out (scanning out work) left → work ≡ left → Opens source (scanning out work)
-  passed source out before behind work left t p r is =
-      let n = name-over provenance macros t behind before out work left r is in
-      subst (λ (z : List (Hidden P) × List (Hidden P)). Opens source (scanning z.0 z.1)) (λ i. ((sym n.done_is ∙ append-nil out) i, sym is i)) (between (goes_on n.uses p n.runs))
+  -- nothing of the name is left, or it is being expanded, with as many tokens behind it and left
+  pub data Stood (source before behind left : List (Hidden P)) (t : Hidden P) : State P → Type 0 where
+    over_now : {done : List (Hidden P)} (u : Uses P) → Runs provenance macros (t ∷ []) behind done (over left) u → Stood source before behind left t (scanning (before ++ done) left)
+    going : {s : State P} (x : InName source s) → length x.behind ≡ length behind → length x.left ≡ length left → Stood source before behind left t s
 
-  stands : (source before behind left : List (Hidden P)) (t : Hidden P) (s : State P) → Passes provenance macros source before (t ∷ behind) → NameReaches provenance macros t behind before s left → Opens source s
-  stands source before behind left t (waiting out work w) p r = inside (record { out = before; name = t; behind = behind; passes = p; left = left; reaches = r; some = tt })
-  stands source before behind left t (expanding out work w n s) p r = inside (record { out = before; name = t; behind = behind; passes = p; left = left; reaches = r; some = tt })
-  stands source before behind left t (scanning out work) p r = by r.front refl
+  pub stood : (source before behind left : List (Hidden P)) (t : Hidden P) (s : State P) → Passes provenance macros source before (t ∷ behind) → NameReaches provenance macros t behind before s left → Stood source before behind left t s
+  stood source before behind left t (waiting out work w) p r = going (record { out = before; name = t; behind = behind; passes = p; left = left; reaches = r; some = tt }) refl refl
+  stood source before behind left t (expanding out work w n s) p r = going (record { out = before; name = t; behind = behind; passes = p; left = left; reaches = r; some = tt }) refl refl
+  stood source before behind left t (scanning out work) p r = by r.front refl
     where
-      by : (front : List (Hidden P)) → r.front ≡ front → Opens source (scanning out work)
-      by [] none = passed source out before behind work left t p r (r.bottom_is ∙ ap (λ l. l ++ left) none)
-      by (x ∷ xs) is = inside (record { out = before; name = t; behind = behind; passes = p; left = left; reaches = r; some = λ none. cc })
+      by : (front : List (Hidden P)) → r.front ≡ front → Stood source before behind left t (scanning out work)
+      by [] none =
+          let same : work ≡ left = r.bottom_is ∙ ap (λ l. l ++ left) none in
+          let n = name-over provenance macros t behind before out work left r same in
+          subst (λ (z : List (Hidden P) × List (Hidden P)). Stood source before behind left t (scanning z.0 z.1)) (λ i. ((sym n.done_is ∙ append-nil out) i, sym same i)) (over_now n.uses n.runs)
+      by (x ∷ xs) is = going (record { out = before; name = t; behind = behind; passes = p; left = left; reaches = r; some = λ none. cc }) refl refl
+
+  stands : {source before behind left : List (Hidden P)} {t : Hidden P} {s : State P} → Passes provenance macros source before (t ∷ behind) → Stood source before behind left t s → Opens source s
+  stands p (over_now u r) = between (goes_on u p r)
+  stands p (going x long own) = inside x
 
   -- ---- from the first step on
 
@@ -86,7 +92,7 @@ module _ {P : Type 0} (provenance : Provenance P) (macros : Macros) where
   opens-move source s t opens m free =
       let x = in-name source s opens (no-moves m) in
       let r = name-move provenance macros x.name x.behind x.out x.left s t x.reaches m free x.some in
-      stands source x.out x.behind r.0 x.name t x.passes r.1
+      stands x.passes (stood source x.out x.behind r.0 x.name t x.passes r.1)
 
   pub opens-leads : (source : List (Hidden P)) (s t : State P) → Opens source s → LeadsOn provenance macros s t → Opens source t
   opens-leads source s _ opens no_step = opens

@@ -21,6 +21,7 @@ pub mod Waiting
 pub mod Alike
 pub mod FootprintSteps
 pub mod Footprints
+pub mod Spans
 pub mod CallStops
 pub mod WorkLists
 pub mod FirstCalls

@@ -1,13 +1,12 @@
 //! Laws about the definitions, each the contract of a function without code.
-ghost use Rattle.std.specs.Prelude.{◌≡◌, ℕ, ◌<◌, ◌≤◌, true, false, [], ◌∷◌, Err, List, All, Ok, Result, length, map};
+ghost use Rattle.std.specs.Prelude.{◌≡◌, ℕ, ◌+◌, ◌<◌, true, false, [], ◌∷◌, Err, List, All, Ok, Result, length, map};
 ghost use Rattle.c11_macros.specs.Expansion.{Expands, IsWithin};
 ghost use Rattle.c11_macros.specs.Footprint.{footprint};
 ghost use Rattle.c11_macros.specs.Hidden.{Failure, Hidden, Provenance};
 ghost use Rattle.c11_macros.specs.Macros.{Macros};
-ghost use Rattle.c11_macros.specs.Runs.{IsHeld, Settles, after_these};
+ghost use Rattle.c11_macros.specs.Runs.{End, IsHeld, Runs, Settles, Uses, after_these, fails, over};
 ghost use Rattle.c11_macros.specs.Text.{TextExpands};
 ghost use Rattle.c11_macros.specs.Trace.{Agree, trace};
-ghost use Rattle.sc_expand.specs.FootprintSteps.{IsPending, LeadsUntil};
 ghost use Rattle.sc_expand.specs.Moved.{IsKept, moved, moved_answer, moved_failure};
 ghost use Rattle.sc_expand.specs.OneLine.{AreOneLine, IsInPlace, IsOneLine};
 ghost use Rattle.sc_expand.specs.Open.{LeadsOn, Waits, closed};
@@ -59,18 +58,16 @@ pub fn steps_depend_on_the_names_looked_up<P>()
         → Leads provenance one (scanning [] list) s → Leads provenance two (scanning [] list) s }
 {}
 
-/// The steps from a name on, while more is to be scanned than they leave of the list behind it,
-/// take what its footprint says: where they come to what they leave, the footprint leaves as many
-/// tokens and has not failed, and where they fail it has.
-pub fn steps_take_the_footprint<P>()
-    ensures ends { (provenance : Provenance P) (macros : Macros) (names : List (List ℕ)) → IsWithin names macros
-        → (t : Hidden P) (rest : List (Hidden P)) (r : Result (List (Hidden P)) (Failure P))
-        (d : Expands provenance macros (t ∷ rest) r) → (out work : List (Hidden P)) (left : ℕ)
-        → LeadsUntil provenance macros (scanning [] (t ∷ rest)) (length rest) (scanning out work) left
-        → length work ≤ left → ((footprint d).left ≡ length work) × ((footprint d).fails ≡ false) }
-    ensures fails { (provenance : Provenance P) (macros : Macros) (t : Hidden P) (rest : List (Hidden P)) (r : Result (List (Hidden P)) (Failure P))
-        (d : Expands provenance macros (t ∷ rest) r) → (s : State P) (left : ℕ) → LeadsUntil provenance macros (scanning [] (t ∷ rest)) (length rest) s left
-        → IsPending s left → (failure : Failure P) → Fails provenance macros s failure → (footprint d).fails ≡ true }
+/// What the run of a name takes of the list behind it, and what it looks up, is in its footprint,
+/// which has failed where the run fails, and not where it is over.
+pub fn runs_take_the_footprint<P>()
+    ensures { (provenance : Provenance P) (macros : Macros) (names : List (List ℕ)) → IsWithin names macros
+        → (t : Hidden P) (rest done : List (Hidden P)) (end : End P) (u : Uses P) → Runs provenance macros (t ∷ []) rest done end u
+        → (r : Result (List (Hidden P)) (Failure P)) (d : Expands provenance macros (t ∷ rest) r)
+        → ((footprint d).left + length u.taken ≡ length rest)
+        × ((one two : Macros) → Agree one two (footprint d).looked_up → Agree one two u.looked_up)
+        × ((after : List (Hidden P)) → end ≡ over after → (footprint d).fails ≡ false)
+        × ((failure : Failure P) → end ≡ fails failure → (footprint d).fails ≡ true) }
 {}
 
 /// What a list expands to does not depend on what is kept of the places of its tokens.

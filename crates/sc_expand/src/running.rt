@@ -2,11 +2,11 @@
 ghost use Rattle.std.specs.Prelude.{All, [], false, ◌≡◌, ◌<◌, ℕ, List, Some, length, true, IfErr, IfOk, IsSome, OnOk};
 ghost use Rattle.std.specs.Bool.{OnFalse, OnTrue};
 ghost use Rattle.sc_expand.specs.Alike.{DefineAlike, IsAlikeExpansion, TakesName, no_others};
-ghost use Rattle.sc_expand.specs.Footprints.{StopsAtName};
 ghost use Rattle.sc_expand.specs.Machine.{IsExpansion, IsHeldExpansion};
 ghost use Rattle.sc_expand.specs.Running.{IsDone, IsDropped, IsReady, IsRested, IsTurned, IsUntouched, PutsOut, next_of, put_out, weight};
 ghost use Rattle.sc_expand.specs.Seen.{Grows, failures_at, provenance_of, seen_at, stores};
 ghost use Rattle.sc_expand.specs.CallStops.{StopsAt};
+ghost use Rattle.sc_expand.specs.Spans.{StopsApart};
 ghost use Rattle.sc_expand.specs.Unchanged.{IsRestricted, LooksUpNone};
 ghost use Rattle.sc_hoist.specs.Alike.{AreAlike};
 ghost use Rattle.sc_model.specs.Growth.{Extends};
@@ -46,7 +46,7 @@ impl Expansion {
             (stores (C.sets conds.new) names.new self.new.sets) self.old.refusals.live.0 self.old.top.out self.new.top.out) }
         ensures unchanged { OnOk result (LooksUpNone (C.sets conds.old) names.old (macros_at (C.sets conds.old) names.old table.now) self.old
             → IsRestricted (C.sets conds.new) self.old.refusals.live.0 self.old.top.work self.new.top.out × (self.new.refusals ≡ self.old.refusals)) }
-        ensures stops { IfErr result (StopsAtName (seen_hidden names.old self.old.sets) (provenance_of files.now)
+        ensures stops { IfErr result (StopsApart (seen_hidden names.old self.old.sets) (provenance_of files.now)
             (macros_at (C.sets conds.old) names.old table.now) (C.sets conds.old)
             self.old.refusals.live.0 self.old.top.work limit) }
         ensures alike { OnOk result ((c d : List ℕ) → IsConfig (C.sets conds.old).arities c → IsConfig (C.sets conds.old).arities d

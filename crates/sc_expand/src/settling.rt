@@ -1,11 +1,11 @@
 //! Macro expansion of a list as far as it does not depend on what follows the list.
 ghost use Rattle.std.specs.Prelude.{◌≡◌, ℕ, List, [], map, true, length, IfErr, IfOk};
 ghost use Rattle.sc_expand.specs.Alike.{DefineAlike};
-ghost use Rattle.sc_expand.specs.Footprints.{StopsAtName};
 ghost use Rattle.sc_expand.specs.Having.{tokens_in};
 ghost use Rattle.sc_expand.specs.Running.{IsUntouched};
 ghost use Rattle.sc_expand.specs.Seen.{AreHeld, provenance_of, seen_at, stores};
 ghost use Rattle.sc_expand.specs.Settling.{IsHeldSettled, IsSettled};
+ghost use Rattle.sc_expand.specs.Spans.{StopsApart};
 ghost use Rattle.sc_expand.specs.Unchanged.{DefinesNone, IsRestricted};
 ghost use Rattle.sc_guarded.specs.Items.{items_at};
 ghost use Rattle.sc_hoist.specs.Alike.{AreAlike, AreAlikeFaults};
@@ -61,7 +61,7 @@ pub fn settle<C: Conditions>(
     ensures unchanged { IfOk result (λ s. DefinesNone (C.sets conds.old) names.old (macros_at (C.sets conds.old) names.old table.now) live.0 (tokens_in list.now)
         → IsRestricted (C.sets conds.new) live.0 (tokens_in list.now) s.done × ((s.held.items ≡ [])
         × ((c : List ℕ) → IsConfig (C.sets conds.old).arities c → items_at (C.sets conds.new) s.rest c ≡ []))) }
-    ensures stops { IfErr result (StopsAtName (seen_hidden names.old sets.old) (provenance_of files.now) (macros_at (C.sets conds.old) names.old table.now)
+    ensures stops { IfErr result (StopsApart (seen_hidden names.old sets.old) (provenance_of files.now) (macros_at (C.sets conds.old) names.old table.now)
         (C.sets conds.old) live.0 list.now limit) }
     ensures alike { IfOk result (λ s. (c d : List ℕ) → IsConfig (C.sets conds.old).arities c → IsConfig (C.sets conds.old).arities d
         → (C.sets conds.old).has live.0 c ≡ true → (C.sets conds.old).has live.0 d ≡ true → AreAlike (C.sets conds.old) c d list.now

@@ -6,11 +6,15 @@ use Rattle.sc_expand.proofs.AlikeLemmas.{IsAlike-Keeps, all-back}
 use Rattle.sc_expand.proofs.Ending.{bared}
 use Rattle.sc_expand.proofs.ExpandLemmas.{answer-alike, answer-held, answer-some, done-empty, done-expanded, hidden-held, source-defines}
 use Rattle.sc_expand.proofs.FootprintPlaces.{text-stops}
+use Rattle.sc_expand.proofs.PlainTables.{entry_names, within-table}
+use Rattle.sc_expand.proofs.SpanFootprints.{apart-stops}
 use Rattle.sc_expand.proofs.UnchangedAnswers.{answer-unchanged, no-more-faults, none-more}
+use Rattle.sc_expand.specs.Seen.{provenance_of}
 use Rattle.sc_expand.specs.Unchanged.{DefinesNone, IsRestricted}
 use Rattle.sc_hoist.specs.Alike.{AreAlike, IsAlike}
 use Rattle.sc_model.proofs.SetLemmas.{IsConfig-Keeps, IsConfig-kept, Keeps-trans}
 use Rattle.sc_model.specs.Sets.{IsConfig}
+use Rattle.sc_subst.specs.Seen.{seen_hidden}
 use Rattle.sc_table.proofs.Growth.{macros_at-Extends, macros_at-Keeps, IsTable-Extends, IsTable-Keeps}
 use Rattle.sc_table.specs.Table.{macros_at}
 use Rattle.sc_expand.proofs.expanding.expand.Goals as goal
@@ -101,7 +105,13 @@ returns-in_err-settled-clause-stops g c =
     let names = c.args.names.now in
     let h = c.in_ok-hidden.ensures in
     let p = err_from_is_err_and c.from_residual-in_err-settled.result c.from_residual-in_err-settled.ensures.1 in
-    let stops = text-stops s names c.args.files.now c.in_ok-sets.sets (macros_at s names c.args.table.now) c.args.live.0 c.in_ok-hidden.hidden c.args.list.now c.args.limit c.in_err-settled.field-0.0 h.tokens h.unhidden c.in_err-settled.ensures.stops in
+    let table = c.args.table.now in
+    let macros = macros_at s names table in
+    let hides = c.in_ok-sets.sets in
+    let work = c.in_ok-hidden.hidden in
+    let stop = c.in_err-settled.field-0.0 in
+    let at_name = apart-stops (seen_hidden names hides) (provenance_of c.args.files.now) macros (entry_names names table.entries.entries) (within-table s names table) s c.args.live.0 work c.args.limit stop c.in_err-settled.ensures.stops in
+    let stops = text-stops s names c.args.files.now hides macros c.args.live.0 work c.args.list.now c.args.limit stop h.tokens h.unhidden at_name in
     rw (p.1, p.2) stops
 
 pub returns-in_err-closed-clause-stops : goal.returns-in_err-closed-clause-stops
