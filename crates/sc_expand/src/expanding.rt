@@ -67,7 +67,7 @@ pub fn expand<C: Conditions>(
     let mut sets = HideSets::new(alloc)?;
     let hidden = unhidden(alloc, &sets, list)?;
     let settled = settle(
-        alloc, conds, table, &mut sets, &hidden, live, limit, names, files,
+        alloc, conds, table, &mut sets, hidden, live, limit, names, files,
     )?;
     let closed = close(alloc, conds, &settled.rest, live)?;
     let expanded = joined(settled, closed)?;

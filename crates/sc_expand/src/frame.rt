@@ -1,3 +1,5 @@
+ghost use Rattle.std.specs.Prelude.{◌≡◌};
+
 use crate::call::Call;
 use crate::work_list::WorkList;
 use sc_guarded::Guarded;
@@ -10,6 +12,15 @@ pub struct Frame {
     pub out: Guarded<Hidden>,
     /// Calls that have left the work list. No configuration has two.
     pub calls: Vec<Call>,
+}
+
+impl Frame {
+    /// What is put out. The rest gives its memory back.
+    pub fn into_out(self) -> Guarded<Hidden>
+        ensures { result ≡ self.out }
+    {
+        self.out
+    }
 }
 
 /// A list with a call of which an argument is being expanded.

@@ -45,28 +45,28 @@ pub fn settle<C: Conditions>(
     conds: &mut C,
     table: &MacroTable,
     sets: &mut HideSets,
-    list: &Guarded<Hidden>,
+    list: Guarded<Hidden>,
     live: Cond,
     limit: usize,
     names: &mut Names,
     files: &Files,
 ) -> Result<Settled, Stop>
     requires table { IsTable (C.sets conds.old) names.old table.now }
-    requires held { AreHeld (stores (C.sets conds.old) names.old sets.old) (length files.now) list.now }
+    requires held { AreHeld (stores (C.sets conds.old) names.old sets.old) (length files.now) list }
     requires live_own { IsCond (C.sets conds.old) live.0 }
     ensures settles { IfOk result (λ s. (c : List ℕ) → IsConfig (C.sets conds.old).arities c
         → IsSettled (stores (C.sets conds.new) names.new sets.new) files.now s (macros_at (C.sets conds.old) names.old table.now c)
-        (seen_at (stores (C.sets conds.old) names.old sets.old) list.now c) c ((C.sets conds.old).has live.0 c)) }
+        (seen_at (stores (C.sets conds.old) names.old sets.old) list c) c ((C.sets conds.old).has live.0 c)) }
     ensures held { IfOk result (IsHeldSettled (stores (C.sets conds.new) names.new sets.new) (length files.now)) }
-    ensures unchanged { IfOk result (λ s. DefinesNone (C.sets conds.old) names.old (macros_at (C.sets conds.old) names.old table.now) live.0 (tokens_in list.now)
-        → IsRestricted (C.sets conds.new) live.0 (tokens_in list.now) s.done × ((s.held.items ≡ [])
+    ensures unchanged { IfOk result (λ s. DefinesNone (C.sets conds.old) names.old (macros_at (C.sets conds.old) names.old table.now) live.0 (tokens_in list)
+        → IsRestricted (C.sets conds.new) live.0 (tokens_in list) s.done × ((s.held.items ≡ [])
         × ((c : List ℕ) → IsConfig (C.sets conds.old).arities c → items_at (C.sets conds.new) s.rest c ≡ []))) }
     ensures stops { IfErr result (StopsApart (seen_hidden names.old sets.old) (provenance_of files.now) (macros_at (C.sets conds.old) names.old table.now)
-        (C.sets conds.old) live.0 list.now limit) }
+        (C.sets conds.old) live.0 list limit) }
     ensures alike { IfOk result (λ s. (c d : List ℕ) → IsConfig (C.sets conds.old).arities c → IsConfig (C.sets conds.old).arities d
-        → (C.sets conds.old).has live.0 c ≡ true → (C.sets conds.old).has live.0 d ≡ true → AreAlike (C.sets conds.old) c d list.now
+        → (C.sets conds.old).has live.0 c ≡ true → (C.sets conds.old).has live.0 d ≡ true → AreAlike (C.sets conds.old) c d list
         → DefineAlike (provenance_of files.now) (macros_at (C.sets conds.old) names.old table.now c) (macros_at (C.sets conds.old) names.old table.now d)
-        (seen_at (stores (C.sets conds.old) names.old sets.old) list.now c)
+        (seen_at (stores (C.sets conds.old) names.old sets.old) list c)
         → AreAlike (C.sets conds.new) c d s.done × AreAlike (C.sets conds.new) c d s.rest × AreAlikeFaults (C.sets conds.new) c d s.held.items) }
 
     // at every outcome
@@ -87,16 +87,15 @@ pub fn settle<C: Conditions>(
 /// The expansion of a list before its first turn.
 fn begun(
     alloc: Global,
-    list: &Guarded<Hidden>,
+    list: Guarded<Hidden>,
     live: Cond,
     never: Cond,
 ) -> Result<Expansion, OutOfMemory>
     ensures untouched { IfOk result (λ e. (s : Sets) → IsNever s never.0 → IsUntouched s e) }
     ensures waiting { IfOk result (λ e. e.refusals.waiting ≡ never) }
     ensures live { IfOk result (λ e. e.refusals.live ≡ live) }
-    ensures work { IfOk result (λ e. e.top.work ≡ list.now) }
+    ensures work { IfOk result (λ e. e.top.work ≡ list) }
 {
-    let items = copied(alloc, list)?;
     Ok(Expansion {
         alloc,
         sets: HideSets::new(alloc)?,
@@ -107,24 +106,12 @@ fn begun(
         },
         rest: Guarded::new(alloc)?,
         top: Frame {
-            work: WorkList::over(alloc, items),
+            work: WorkList::over(alloc, list.into_items()),
             out: Guarded::new(alloc)?,
             calls: Vec::new(alloc),
         },
         below: Vec::new(alloc),
     })
-}
-
-/// The items of a list.
-fn copied(alloc: Global, list: &Guarded<Hidden>) -> Result<Vec<(Cond, Hidden)>, OutOfMemory>
-    ensures { IfOk result (λ made. made.items ≡ list.now) }
-{
-    let mut items = Vec::new(alloc);
-    for index in 0..list.len() {
-        let (cond, hidden) = list.item(index);
-        items.push((cond, *hidden))?;
-    }
-    Ok(items)
 }
 
 /// What the list has become, without hide sets, and what waits.
@@ -133,14 +120,23 @@ fn parts_of(expansion: Expansion) -> Result<Settled, OutOfMemory>
     ensures rest { IfOk result (λ s. s.rest ≡ expansion.rest) }
     ensures held { IfOk result (λ s. s.held ≡ expansion.refusals.faults) }
 {
-    let mut done = Guarded::new(expansion.alloc)?;
-    for index in 0..expansion.top.out.len() {
-        let (cond, hidden) = expansion.top.out.item(index);
-        done.push(cond, hidden.token)?;
-    }
+    let out = expansion.top.into_out();
+    let done = without_hide_sets(expansion.alloc, &out)?;
     Ok(Settled {
         done,
         rest: expansion.rest,
         held: expansion.refusals.faults,
     })
+}
+
+/// The tokens of a list alone.
+fn without_hide_sets(alloc: Global, out: &Guarded<Hidden>) -> Result<Guarded<Token>, OutOfMemory>
+    ensures { IfOk result (λ done. done ≡ map (λ item. (item.0, item.1.token)) out.now) }
+{
+    let mut done = Guarded::new(alloc)?;
+    for index in 0..out.len() {
+        let (cond, hidden) = out.item(index);
+        done.push(cond, hidden.token)?;
+    }
+    Ok(done)
 }

@@ -63,6 +63,13 @@ impl<T> Guarded<T> {
         (pair.0, &pair.1)
     }
 
+    /// The items, each with its condition.
+    pub fn into_items(self) -> Vec<(Cond, T)>
+        ensures { result.items ≡ self }
+    {
+        self.items
+    }
+
     /// Restricts the items of index `from` on to the configurations that `by` has.
     pub fn restrict<C: Conditions>(
         &mut self,

@@ -1,10 +1,6 @@
-use Rattle.std.proofs.Common.{ap, arith, map, ◌∙◌}
-use Rattle.std.proofs.lemmas.List.{take_all}
-use Rattle.sc_expand.proofs.Ending.{bared, finished-next}
+use Rattle.std.proofs.Common.{ap, map, ◌∙◌}
+use Rattle.sc_expand.proofs.Ending.{bared}
 use Rattle.sc_expand.proofs.settling.parts_of.Goals as goal
 
-pub loop-index-preserved : goal.loop-index-preserved
-loop-index-preserved c = finished-next c.loop-index.done c.push.new.self c.args.expansion.top.out c.loop-index.index c.item.result.0 c.item.result.1.now c.loop-index.invariant c.item.ensures c.in_ok-push.ensures.ok
-
 pub returns-clause-done : goal.returns-clause-done
-returns-clause-done c = c.loop-index.invariant ∙ ap (map bared) (take_all c.loop-index.index c.args.expansion.top.out (omega (arith, c.loop-index-test.false, c.len-index-end.ensures)))
+returns-clause-done c = c.in_ok-done.ensures ∙ ap (map bared) c.into_out-out.ensures

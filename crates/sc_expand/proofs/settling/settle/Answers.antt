@@ -27,8 +27,8 @@ run-ran-requires-clause-held g c =
     let e = c.in_ok-expansion.ensures in
     let fresh = e.untouched s (record { none = λ x listed. c.never-never.ensures.meaning.at x listed }) in
     let begun : Expansion = record c.in_ok-expansion.expansion { sets = c.swap.new.y } in
-    let held = subst (λ h. AreHeld (stores s n h) files c.args.list.now) (sym c.swap.ensures.y_after) c.requires.held in
-    begun-held (stores s n c.swap.new.y) begun c.args.list.now c.args.live (record { below = fresh.below; out = fresh.out; calls = fresh.calls; faults = fresh.faults; rest = fresh.rest; waiting = fresh.waiting }) e.live e.work files held c.requires.live_own
+    let held = subst (λ h. AreHeld (stores s n h) files c.args.list) (sym c.swap.ensures.y_after) c.requires.held in
+    begun-held (stores s n c.swap.new.y) begun c.args.list c.args.live (record { below = fresh.below; out = fresh.out; calls = fresh.calls; faults = fresh.faults; rest = fresh.rest; waiting = fresh.waiting }) e.live e.work files held c.requires.live_own
     (subst (λ (k : Cond). IsCond s k.0) (sym e.waiting) c.never-never.ensures.own)
 
 pub run-ran-requires-clause-untouched : goal.run-ran-requires-clause-untouched
@@ -45,7 +45,7 @@ returns g c =
     let later = c.run-ran.new.names in
     let files = c.args.files.now in
     let macros = macros_at s n c.args.table.now in
-    let list = c.args.list.now in
+    let list = c.args.list in
     let live = c.args.live in
     let e = c.in_ok-expansion.ensures in
     let began = e.untouched s (record { none = λ x listed. c.never-never.ensures.meaning.at x listed }) in

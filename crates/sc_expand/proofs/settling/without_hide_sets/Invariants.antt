@@ -1,7 +1,7 @@
 use Rattle.std.proofs.Common.{◌≡◌, map, take}
 use Rattle.sc_base.specs.declared.id.Cond.{Cond}
 use Rattle.sc_subst.specs.declared.hidden.Hidden.{Hidden}
-use Rattle.sc_expand.proofs.settling.parts_of.Given as goal
+use Rattle.sc_expand.proofs.settling.without_hide_sets.Given as goal
 
 abbrev pub invariant-loop-index : goal.invariant-loop-index
-invariant-loop-index l = l.done ≡ map (λ (item : Cond × Hidden). (item.0, item.1.token)) (take l.index l.expansion.top.out)
+invariant-loop-index l = l.done ≡ map (λ (item : Cond × Hidden). (item.0, item.1.token)) (take l.index l.out)
