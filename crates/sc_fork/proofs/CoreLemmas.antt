@@ -324,16 +324,16 @@ module _ (old new : Sets) (lines added : List Line) (names files : List (List �
       → AreMade old new lines added before.source can pieces → All (OwnsPiece new (length added) before.source) pieces → after.source ≡ before.source → Becomes before e pieces after made
       → IsApplied (tables_with old lines names files) (tables_with new added names files) input before e after made seen
   applied before after _ _ seen pieces made keeps longer is stands (can_split n i s has phase) events own source becomes =
-      alone-applied old new lines added names files input before after (event.Split n) core.split n s.now seen pieces made refl refl keeps longer is has events source becomes
+      alone-applied old new lines added names files input before after (event.Split n) core.split n s seen pieces made refl refl keeps longer is has events source becomes
   applied before after _ _ seen pieces made keeps longer is stands (can_reduce n j p s has phase action) events own source becomes =
-      alone-applied old new lines added names files input before after (event.Reduce n) core.reduce n s.now seen pieces made refl refl keeps longer is has events source becomes
+      alone-applied old new lines added names files input before after (event.Reduce n) core.reduce n s seen pieces made refl refl keeps longer is has events source becomes
   applied before after _ _ seen pieces made keeps longer is stands (can_shift n j s has phase action) events own source becomes =
-      alone-applied old new lines added names files input before after (event.Shift n) core.shift n s.now seen pieces made refl refl keeps longer is has events source becomes
+      alone-applied old new lines added names files input before after (event.Shift n) core.shift n s seen pieces made refl refl keeps longer is has events source becomes
   applied before after _ _ seen pieces made keeps longer is stands (can_classify n j s has phase) events own source becomes =
-      alone-applied old new lines added names files input before after (event.Classify n) core.classify n s.now seen pieces made refl refl keeps longer is has events source becomes
+      alone-applied old new lines added names files input before after (event.Classify n) core.classify n s seen pieces made refl refl keeps longer is has events source becomes
   applied before after _ _ seen pieces made keeps longer is stands (can_merge n o s t has_n has_o apart alike) merges own source becomes =
       let m = merges.merged in
       let P : kept.Piece → Type 0 = OwnsPiece new (length added) before.source in
       let mine = All-head P (Going m) [] (subst (All P) merges.is own) in
-      merged-applied before after n o s.now t.now m seen made keeps longer is stands has_n has_o apart alike merges.merges mine.owns source
+      merged-applied before after n o s t m seen made keeps longer is stands has_n has_o apart alike merges.merges mine.owns source
       (subst (λ ps. Becomes before (event.Merge n o) ps after made) merges.is becomes)

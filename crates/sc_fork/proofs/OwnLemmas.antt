@@ -28,23 +28,23 @@ module _ (P : Subparser → Type 0) (rows : List (Option Subparser)) where
   row-is n s at all = at-all (λ (row : Option Subparser). IfSome row P) rows n (Some s) all at
 
   pub each-is : (source : Source) (e : Event) (can : Enabled) → IsEnabled source rows e can → All (λ (row : Option Subparser). IfSome row P) rows → EachIs P can
-  each-is source _ _ (can_split n i s has phase) all = row-is n s.now has all
-  each-is source _ _ (can_reduce n j p s has phase action) all = row-is n s.now has all
-  each-is source _ _ (can_shift n j s has phase action) all = row-is n s.now has all
-  each-is source _ _ (can_classify n j s has phase) all = row-is n s.now has all
-  each-is source _ _ (can_merge n m s t has_n has_m apart alike) all = (row-is n s.now has_n all, row-is m t.now has_m all)
+  each-is source _ _ (can_split n i s has phase) all = row-is n s has all
+  each-is source _ _ (can_reduce n j p s has phase action) all = row-is n s has all
+  each-is source _ _ (can_shift n j s has phase action) all = row-is n s has all
+  each-is source _ _ (can_classify n j s has phase) all = row-is n s has all
+  each-is source _ _ (can_merge n m s t has_n has_m apart alike) all = (row-is n s has_n all, row-is m t has_m all)
 
 one-within : (rows : List (Option Subparser)) (n : ℕ) (s : Subparser) (numbers : List ℕ) → slice_get rows n ≡ Some (Some s) → All (λ (k : ℕ). k < length rows) numbers
     → All (λ (k : ℕ). k < length rows) (n ∷ numbers)
 one-within rows n s numbers at rest = All-cons (λ (k : ℕ). k < length rows) n numbers (slice_get_within rows n (Some s) at) rest
 
 pub numbers-within : (source : Source) (rows : List (Option Subparser)) (e : Event) (can : Enabled) → IsEnabled source rows e can → All (λ (number : ℕ). number < length rows) (numbers_of e)
-numbers-within source rows _ _ (can_split n i s has phase) = one-within rows n s.now [] has (All-nil (λ (k : ℕ). k < length rows))
-numbers-within source rows _ _ (can_reduce n j p s has phase action) = one-within rows n s.now [] has (All-nil (λ (k : ℕ). k < length rows))
-numbers-within source rows _ _ (can_shift n j s has phase action) = one-within rows n s.now [] has (All-nil (λ (k : ℕ). k < length rows))
-numbers-within source rows _ _ (can_classify n j s has phase) = one-within rows n s.now [] has (All-nil (λ (k : ℕ). k < length rows))
+numbers-within source rows _ _ (can_split n i s has phase) = one-within rows n s [] has (All-nil (λ (k : ℕ). k < length rows))
+numbers-within source rows _ _ (can_reduce n j p s has phase action) = one-within rows n s [] has (All-nil (λ (k : ℕ). k < length rows))
+numbers-within source rows _ _ (can_shift n j s has phase action) = one-within rows n s [] has (All-nil (λ (k : ℕ). k < length rows))
+numbers-within source rows _ _ (can_classify n j s has phase) = one-within rows n s [] has (All-nil (λ (k : ℕ). k < length rows))
 numbers-within source rows _ _ (can_merge n m s t has_n has_m apart alike) =
-    one-within rows n s.now (m ∷ []) has_n (one-within rows m t.now [] has_m (All-nil (λ (k : ℕ). k < length rows)))
+    one-within rows n s (m ∷ []) has_n (one-within rows m t [] has_m (All-nil (λ (k : ℕ). k < length rows)))
 
 -- ---- the core after it
 

@@ -1,12 +1,10 @@
 -- In which phases the pieces of an event are.
 use Rattle.std.proofs.Common.{◌≡◌, ℕ, ◌+◌, ◌<◌, ◌≤◌, List, Option, [], ◌∷◌, ◌++◌, All, length, refl, sym, ap, ◌∙◌, subst, arith}
 use Rattle.std.specs.Prelude.{AllPairs}
-use Rattle.std.specs.Borrow.{Bor}
 use Rattle.std.proofs.lemmas.List.Elements.{All-head, All-tail, All-cons, All-nil, All-append}
 use Rattle.std.proofs.lemmas.List.Kept.{AllPairs-cons}
 use Rattle.sc_base.specs.declared.id.Cond.{Cond}
 use Rattle.sc_fork.specs.declared.enabled.Enabled.{Enabled}
-use Rattle.sc_fork.specs.declared.enabled.Enabled.TheVariants.{Reduce, Shift, Merge}
 use Rattle.sc_fork.specs.declared.event.Event.{Event}
 use Rattle.sc_fork.specs.declared.event.Event.TheVariants as event
 use Rattle.sc_fork.specs.Enabled.{IsEnabled, can_split, can_reduce, can_shift, can_classify, can_merge}
@@ -76,48 +74,25 @@ kind-phases sets source parent j types variables start first second fresh adds t
     (All-append (IfGoing (λ next. next.phase ≡ Between (j + 1))) adds.added then_adds.added (kind-phase sets source parent j types 1 adds.added adds.part)
     (kind-phase sets source parent j variables 2 then_adds.added then_adds.part))
 
--- ---- by the event
-
-module _ (source : Source) (e : Enabled) (pieces : List Piece) where
-  module _ (piece : Piece) (is : pieces ≡ piece ∷ []) where
-    pub reduce-next : (s : Bor Subparser) (j p : ℕ) → e ≡ Reduce s j p → IfGoing (IsReducedBy source j p s.now) piece → All (InNextPhase source e) pieces
-    reduce-next s j p same reduced = subst (λ x. All (InNextPhase source x) pieces) (sym same) (all-one (IfGoing (IsReducedBy source j p s.now)) pieces piece is reduced)
-
-    pub shift-next : (s : Bor Subparser) (j : ℕ) → e ≡ Shift s j → IfGoing (IsPast source j) piece → All (InNextPhase source e) pieces
-    shift-next s j same phase = subst (λ x. All (InNextPhase source x) pieces) (sym same) (all-one (IfGoing (IsPast source j)) pieces piece is phase)
-
-    pub reduce-order : (s : Bor Subparser) (j p : ℕ) → e ≡ Reduce s j p → AreInOrder e pieces
-    reduce-order s j p same = subst (λ x. AreInOrder x pieces) (sym same) (ap length is)
-
-    pub shift-order : (s : Bor Subparser) (j : ℕ) → e ≡ Shift s j → AreInOrder e pieces
-    shift-order s j same = subst (λ x. AreInOrder x pieces) (sym same) (ap length is)
-
-  module _ (m : Subparser) (is : pieces ≡ Going m ∷ []) where
-    pub merge-next : (s t : Bor Subparser) → e ≡ Merge s t → AreAlike s.now m → All (InNextPhase source e) pieces
-    merge-next s t same alike = subst (λ x. All (InNextPhase source x) pieces) (sym same) (all-one (IfGoing (AreAlike s.now)) pieces (Going m) is alike)
-
-    pub merge-order : (s t : Bor Subparser) → e ≡ Merge s t → AreInOrder e pieces
-    merge-order s t same = subst (λ x. AreInOrder x pieces) (sym same) (m, is)
-
 -- ---- what an event makes
 
 pub makes : (source : Source) (rows : List (Option Subparser)) (event : Event) (e : Enabled) (pieces : List Piece) → IsEnabled source rows event e → All (InNextPhase source e) pieces
     → AreInOrder e pieces → Makes source rows event pieces
-makes source rows _ _ pieces (can_split n i s has between) next order = splits n i s.now pieces has between next order
+makes source rows _ _ pieces (can_split n i s has between) next order = splits n i s pieces has between next order
 makes source rows _ _ pieces (can_reduce n j p s has looks acts) next order = alone pieces next order
   where
-    alone : (pieces : List Piece) → All (IfGoing (IsReducedBy source j p s.now)) pieces → length pieces ≡ 1 → Makes source rows (event.Reduce n) pieces
+    alone : (pieces : List Piece) → All (IfGoing (IsReducedBy source j p s)) pieces → length pieces ≡ 1 → Makes source rows (event.Reduce n) pieces
     alone [] next one = absurd (omega (arith, one))
-    alone (piece ∷ []) next one = reduces n j p s.now piece has looks acts (All-head (IfGoing (IsReducedBy source j p s.now)) piece [] next)
+    alone (piece ∷ []) next one = reduces n j p s piece has looks acts (All-head (IfGoing (IsReducedBy source j p s)) piece [] next)
     alone (piece ∷ (other ∷ pieces)) next one = absurd (omega (arith, one))
 makes source rows _ _ pieces (can_shift n j s has looks acts) next order = alone pieces next order
   where
     alone : (pieces : List Piece) → All (IfGoing (IsPast source j)) pieces → length pieces ≡ 1 → Makes source rows (event.Shift n) pieces
     alone [] next one = absurd (omega (arith, one))
-    alone (piece ∷ []) next one = shifts n j s.now piece has looks (All-head (IfGoing (IsPast source j)) piece [] next)
+    alone (piece ∷ []) next one = shifts n j s piece has looks (All-head (IfGoing (IsPast source j)) piece [] next)
     alone (piece ∷ (other ∷ pieces)) next one = absurd (omega (arith, one))
-makes source rows _ _ pieces (can_classify n j s has named) next order = classifies n j s.now pieces has named next
+makes source rows _ _ pieces (can_classify n j s has named) next order = classifies n j s pieces has named next
 makes source rows _ _ pieces (can_merge n m s t has other apart alike) next order =
-    let At_once : Piece → Type 0 = IfGoing (AreAlike s.now) in
-    let merged : AreAlike s.now order.0 = All-head At_once (Going order.0) [] (subst (All At_once) order.1 next) in
-    subst (Makes source rows (event.Merge n m)) (sym order.1) (merges n m s.now t.now order.0 has other apart alike merged)
+    let At_once : Piece → Type 0 = IfGoing (AreAlike s) in
+    let merged : AreAlike s order.0 = All-head At_once (Going order.0) [] (subst (All At_once) order.1 next) in
+    subst (Makes source rows (event.Merge n m)) (sym order.1) (merges n m s t order.0 has other apart alike merged)

@@ -1,9 +1,7 @@
 -- What an event makes of its subparsers, by what the functions of the events promise.
-use Rattle.std.proofs.Common.{◌≡◌, ℕ, zero, suc, ◌<◌, ◌≤◌, ◌⊎◌, inl, inr, List, [], ◌∷◌, ◌++◌, length, map, get_or, slice_get, is_some, Option, Some, All, sym, ap, ◌∙◌, subst}
+use Rattle.std.proofs.Common.{◌≡◌, ℕ, zero, suc, ◌⊎◌, inl, inr, List, [], ◌∷◌, ◌++◌, length, map, get_or, slice_get, is_some, Option, Some, All, sym, ap, ◌∙◌, subst}
 use Rattle.std.proofs.lemmas.List.Elements.{All-nil, All-cons}
 use Rattle.std.proofs.lemmas.Option.{slice_get_within, get_or_from_slice_get}
-use Rattle.std.specs.Borrow.{Bor}
-use Rattle.c11_parsing.specs.Core as core
 use Rattle.lr_tables.proofs.Stacks.{same_symbols}
 use Rattle.lr_tables.specs.declared.grammar.Action.TheVariants as action
 use Rattle.lr_tables.specs.Paths.{Path}
@@ -11,15 +9,13 @@ use Rattle.sc_base.specs.declared.id.Cond.{Cond}
 use Rattle.sc_base.specs.declared.id.TreeId.{TreeId}
 use Rattle.sc_base.specs.declared.token.Token.{Token}
 use Rattle.sc_fork.specs.Choices.{AddsLeaves}
-use Rattle.sc_fork.specs.declared.enabled.Enabled.{Enabled}
 use Rattle.sc_fork.specs.declared.enabled.Enabled.TheVariants.{Split, Reduce, Shift, Classify, Merge}
 use Rattle.sc_fork.specs.declared.event.Event.{Event}
 use Rattle.sc_fork.specs.declared.piece.Piece.{Piece}
 use Rattle.sc_fork.specs.declared.source.Source.{Source}
 use Rattle.sc_fork.specs.Enabled.{IsEnabled, can_split, can_reduce, can_shift, can_classify, can_merge}
-use Rattle.sc_fork.specs.Owns.{HasC11Tables, IsOnPath, IsWithin, IsSource, OwnsEnabled, OwnsRow, has_tree}
-use Rattle.sc_fork.specs.Pieces.{AreMade, AreMerged}
-use Rattle.sc_fork.specs.Seen.{Events, action_in}
+use Rattle.sc_fork.specs.Owns.{HasC11Tables, IsOnPath, IsWithin, IsSource, OwnsRow, has_tree}
+use Rattle.sc_fork.specs.Seen.{action_in}
 use Rattle.sc_merge.specs.declared.subparser.Phase.TheVariants.{Between, At, Named}
 use Rattle.sc_merge.specs.declared.subparser.Subparser.{Subparser}
 use Rattle.sc_merge.specs.Keys.{AreAlike}
@@ -30,75 +26,22 @@ use Rattle.sc_tree.specs.Lines.{Line, leaf, choice, branches_of, OwnsBranches}
 
 -- ---- what an event that a core can do tells
 
-abbrev CanDo : Source → Enabled → Type 0
-CanDo source e = (rows : List (Option Subparser)) × ((event : Event) × IsEnabled source rows event e)
+pub split-phase : (source : Source) (rows : List (Option Subparser)) (event : Event) (s : Subparser) (i : ℕ) → IsEnabled source rows event (Split s i) → s.phase ≡ Between i
+split-phase source rows _ _ _ (can_split n i s has phase) = phase
 
-split-is : (source : Source) (rows : List (Option Subparser)) (event : Event) (s : Bor Subparser) (i : ℕ) → IsEnabled source rows event (Split s i) → s.now.phase ≡ Between i
-split-is source rows _ _ _ (can_split n i s has phase) = phase
-
-reduce-is : (source : Source) (rows : List (Option Subparser)) (event : Event) (s : Bor Subparser) (j p : ℕ) → IsEnabled source rows event (Reduce s j p)
-    → (s.now.phase ≡ At j) × (action_in source s.now j ≡ Some (action.Reduce p))
+pub reduce-is : (source : Source) (rows : List (Option Subparser)) (event : Event) (s : Subparser) (j p : ℕ) → IsEnabled source rows event (Reduce s j p)
+    → (s.phase ≡ At j) × (action_in source s j ≡ Some (action.Reduce p))
 reduce-is source rows _ _ _ _ (can_reduce n j p s has phase does) = (phase, does)
 
-shift-is : (source : Source) (rows : List (Option Subparser)) (event : Event) (s : Bor Subparser) (j : ℕ) → IsEnabled source rows event (Shift s j)
-    → (s.now.phase ≡ At j) × ((p : ℕ) → action_in source s.now j ≡ Some (action.Reduce p) → ⊥)
+pub shift-is : (source : Source) (rows : List (Option Subparser)) (event : Event) (s : Subparser) (j : ℕ) → IsEnabled source rows event (Shift s j)
+    → (s.phase ≡ At j) × ((p : ℕ) → action_in source s j ≡ Some (action.Reduce p) → ⊥)
 shift-is source rows _ _ _ (can_shift n j s has phase other) = (phase, other)
 
-classify-is : (source : Source) (rows : List (Option Subparser)) (event : Event) (s : Bor Subparser) (j : ℕ) → IsEnabled source rows event (Classify s j) → s.now.phase ≡ Named j
-classify-is source rows _ _ _ (can_classify n j s has phase) = phase
+pub classify-phase : (source : Source) (rows : List (Option Subparser)) (event : Event) (s : Subparser) (j : ℕ) → IsEnabled source rows event (Classify s j) → s.phase ≡ Named j
+classify-phase source rows _ _ _ (can_classify n j s has phase) = phase
 
-merge-is : (source : Source) (rows : List (Option Subparser)) (event : Event) (s t : Bor Subparser) → IsEnabled source rows event (Merge s t) → AreAlike s.now t.now
-merge-is source rows _ _ _ (can_merge n m s t has has_other other alike) = alike
-
-module _ (source : Source) (e : Enabled) where
-  pub split-phase : (s : Bor Subparser) (i : ℕ) → e ≡ Split s i → CanDo source e → s.now.phase ≡ Between i
-  split-phase s i same can = split-is source can.0 can.1.0 s i (subst (IsEnabled source can.0 can.1.0) same can.1.1)
-
-  pub reduce-phase : (s : Bor Subparser) (j p : ℕ) → e ≡ Reduce s j p → CanDo source e → s.now.phase ≡ At j
-  reduce-phase s j p same can = (reduce-is source can.0 can.1.0 s j p (subst (IsEnabled source can.0 can.1.0) same can.1.1)).0
-
-  pub reduce-action : (s : Bor Subparser) (j p : ℕ) → e ≡ Reduce s j p → CanDo source e → action_in source s.now j ≡ Some (action.Reduce p)
-  reduce-action s j p same can = (reduce-is source can.0 can.1.0 s j p (subst (IsEnabled source can.0 can.1.0) same can.1.1)).1
-
-  pub shift-phase : (s : Bor Subparser) (j : ℕ) → e ≡ Shift s j → CanDo source e → s.now.phase ≡ At j
-  shift-phase s j same can = (shift-is source can.0 can.1.0 s j (subst (IsEnabled source can.0 can.1.0) same can.1.1)).0
-
-  pub shift-action : (s : Bor Subparser) (j : ℕ) → e ≡ Shift s j → CanDo source e → (p : ℕ) → action_in source s.now j ≡ Some (action.Reduce p) → ⊥
-  shift-action s j same can = (shift-is source can.0 can.1.0 s j (subst (IsEnabled source can.0 can.1.0) same can.1.1)).1
-
-  pub classify-phase : (s : Bor Subparser) (j : ℕ) → e ≡ Classify s j → CanDo source e → s.now.phase ≡ Named j
-  classify-phase s j same can = classify-is source can.0 can.1.0 s j (subst (IsEnabled source can.0 can.1.0) same can.1.1)
-
-  pub merge-alike : (s t : Bor Subparser) → e ≡ Merge s t → CanDo source e → AreAlike s.now t.now
-  merge-alike s t same can = merge-is source can.0 can.1.0 s t (subst (IsEnabled source can.0 can.1.0) same can.1.1)
-
-  module _ (sets : Sets) (count : ℕ) where
-    pub split-within : (s : Bor Subparser) (i : ℕ) → e ≡ Split s i → CanDo source e → OwnsEnabled sets count source e → i ≤ length source.list.now
-    split-within s i same can own = subst (IsWithin (length source.list.now)) (split-phase s i same can) (subst (OwnsEnabled sets count source) same own).within
-
-    pub reduce-within : (s : Bor Subparser) (j p : ℕ) → e ≡ Reduce s j p → CanDo source e → OwnsEnabled sets count source e → j ≤ length source.list.now
-    reduce-within s j p same can own = subst (IsWithin (length source.list.now)) (reduce-phase s j p same can) (subst (OwnsEnabled sets count source) same own).within
-
-    pub shift-within : (s : Bor Subparser) (j : ℕ) → e ≡ Shift s j → CanDo source e → OwnsEnabled sets count source e → j ≤ length source.list.now
-    shift-within s j same can own = subst (IsWithin (length source.list.now)) (shift-phase s j same can) (subst (OwnsEnabled sets count source) same own).within
-
-    pub classify-within : (s : Bor Subparser) (j : ℕ) → e ≡ Classify s j → CanDo source e → OwnsEnabled sets count source e → j < length source.list.now
-    classify-within s j same can own = subst (IsWithin (length source.list.now)) (classify-phase s j same can) (subst (OwnsEnabled sets count source) same own).within
-
-  -- ---- what is made
-
-  module _ (old new : Sets) (lines added : List Line) (pieces : List Piece) (piece : Piece) (is : pieces ≡ piece ∷ []) where
-    pub made-reduce : (s : Bor Subparser) (j p : ℕ) → e ≡ Reduce s j p → Events old new lines added source s.now core.reduce (piece ∷ []) → AreMade old new lines added source e pieces
-    made-reduce s j p same events =
-        subst (λ x. AreMade old new lines added source x pieces) (sym same) (subst (λ ps. Events old new lines added source s.now core.reduce ps) (sym is) events)
-
-    pub made-shift : (s : Bor Subparser) (j : ℕ) → e ≡ Shift s j → Events old new lines added source s.now core.shift (piece ∷ []) → AreMade old new lines added source e pieces
-    made-shift s j same events =
-        subst (λ x. AreMade old new lines added source x pieces) (sym same) (subst (λ ps. Events old new lines added source s.now core.shift ps) (sym is) events)
-
-  pub made-merge : (old new : Sets) (lines added : List Line) (pieces : List Piece) (s t : Bor Subparser) → e ≡ Merge s t → AreMerged old new lines added s.now t.now pieces
-      → AreMade old new lines added source e pieces
-  made-merge old new lines added pieces s t same merged = subst (λ x. AreMade old new lines added source x pieces) (sym same) merged
+pub merge-alike : (source : Source) (rows : List (Option Subparser)) (event : Event) (s t : Subparser) → IsEnabled source rows event (Merge s t) → AreAlike s t
+merge-alike source rows _ _ _ (can_merge n m s t has has_other other alike) = alike
 
 -- ---- what is owned
 

@@ -114,11 +114,11 @@ choices-sound old new lines added names files input before seen _ _ keeps own is
 choices-sound old new lines added names files input before seen _ _ keeps own is stands (can_classify n j s has phase) adds sound = sound-none old new lines added adds keeps own sound
 choices-sound old new lines added names files input before seen _ _ keeps own is stands (can_merge n o s t has_n has_o apart alike) adds sound =
     let w = tables_with old lines names files in
-    let first = row-seen w input before.subparsers seen.rows n s.now is.rows has_n in
-    let second = row-seen w input before.subparsers seen.rows o t.now is.rows has_o in
+    let first = row-seen w input before.subparsers seen.rows n s is.rows has_n in
+    let second = row-seen w input before.subparsers seen.rows o t is.rows has_o in
     let away = rows-apart input seen n o first.other second.other stands apart first.at second.at in
     let arities = is.source.arities in
-    sound-merge old new lines added s.now.cond t.now.cond adds
-    (conditions-apart old new lines names files input s.now t.now first.other second.other keeps arities first.seen second.seen away)
-    (some-config old new lines names files input s.now first.other keeps arities first.seen) (some-config old new lines names files input t.now second.other keeps arities second.seen) keeps own
+    sound-merge old new lines added s.cond t.cond adds
+    (conditions-apart old new lines names files input s t first.other second.other keeps arities first.seen second.seen away)
+    (some-config old new lines names files input s first.other keeps arities first.seen) (some-config old new lines names files input t second.other keeps arities second.seen) keeps own
     sound

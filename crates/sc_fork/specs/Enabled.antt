@@ -1,6 +1,5 @@
 -- Which events a core can do, and of what stands against one the first fact.
 use Rattle.std.specs.Prelude.{◌≡◌, ℕ, List, Option, Some, length, slice_get}
-use Rattle.std.specs.Borrow.{Bor}
 use Rattle.lr_tables.specs.declared.grammar.Action.TheVariants.{Reduce}
 use Rattle.sc_fork.specs.declared.enabled.Enabled as named
 use Rattle.sc_fork.specs.declared.enabled.Enabled.{Enabled}
@@ -37,13 +36,13 @@ pub data IsNotLooking (rows : List (Option Subparser)) (n : ℕ) : Fact → Type
   other_phase : (s : Subparser) → Has rows n s → ((j : ℕ) → s.phase ≡ At j → ⊥) → IsNotLooking rows n WrongPhase
 
 pub data IsEnabled (source : Source) (rows : List (Option Subparser)) : Event → Enabled → Type 0 where
-  can_split : (n i : ℕ) (s : Bor Subparser) → Has rows n s.now → s.now.phase ≡ Between i → IsEnabled source rows (event.Split n) (named.TheVariants.Split s i)
-  can_reduce : (n j p : ℕ) (s : Bor Subparser) → Has rows n s.now → s.now.phase ≡ At j → action_in source s.now j ≡ Some (Reduce p)
+  can_split : (n i : ℕ) (s : Subparser) → Has rows n s → s.phase ≡ Between i → IsEnabled source rows (event.Split n) (named.TheVariants.Split s i)
+  can_reduce : (n j p : ℕ) (s : Subparser) → Has rows n s → s.phase ≡ At j → action_in source s j ≡ Some (Reduce p)
       → IsEnabled source rows (event.Reduce n) (named.TheVariants.Reduce s j p)
-  can_shift : (n j : ℕ) (s : Bor Subparser) → Has rows n s.now → s.now.phase ≡ At j → ((p : ℕ) → action_in source s.now j ≡ Some (Reduce p) → ⊥)
+  can_shift : (n j : ℕ) (s : Subparser) → Has rows n s → s.phase ≡ At j → ((p : ℕ) → action_in source s j ≡ Some (Reduce p) → ⊥)
       → IsEnabled source rows (event.Shift n) (named.TheVariants.Shift s j)
-  can_classify : (n j : ℕ) (s : Bor Subparser) → Has rows n s.now → s.now.phase ≡ Named j → IsEnabled source rows (event.Classify n) (named.TheVariants.Classify s j)
-  can_merge : (n m : ℕ) (s t : Bor Subparser) → Has rows n s.now → Has rows m t.now → (n ≡ m → ⊥) → AreAlike s.now t.now
+  can_classify : (n j : ℕ) (s : Subparser) → Has rows n s → s.phase ≡ Named j → IsEnabled source rows (event.Classify n) (named.TheVariants.Classify s j)
+  can_merge : (n m : ℕ) (s t : Subparser) → Has rows n s → Has rows m t → (n ≡ m → ⊥) → AreAlike s t
       → IsEnabled source rows (event.Merge n m) (named.TheVariants.Merge s t)
 
 pub data IsRefused (source : Source) (rows : List (Option Subparser)) : Event → Fact → Type 0 where

@@ -90,11 +90,11 @@ OwnsPiece sets count source (Over e) = OwnsEnded sets count source e
 
 -- each subparser that an event names is so
 abbrev pub EachIs : (Subparser → Type 0) → Enabled → Type 0
-EachIs P (enabled.Split s i) = P s.now
-EachIs P (enabled.Reduce s j p) = P s.now
-EachIs P (enabled.Shift s j) = P s.now
-EachIs P (enabled.Classify s j) = P s.now
-EachIs P (enabled.Merge s t) = P s.now × P t.now
+EachIs P (enabled.Split s i) = P s
+EachIs P (enabled.Reduce s j p) = P s
+EachIs P (enabled.Shift s j) = P s
+EachIs P (enabled.Classify s j) = P s
+EachIs P (enabled.Merge s t) = P s × P t
 
 abbrev pub OwnsEnabled : Sets → ℕ → Source → Enabled → Type 0
 OwnsEnabled sets count source = EachIs (OwnsRow sets count source)

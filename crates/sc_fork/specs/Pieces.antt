@@ -43,15 +43,15 @@ pub record AreMerged (old new : Sets) (lines added : List Line) (s t : Subparser
 
 -- the pieces are those of the event
 abbrev pub AreMade : Sets → Sets → List Line → List Line → Source → Enabled → List Piece → Type 0
-AreMade old new lines added source (enabled.Split s i) pieces = Events old new lines added source s.now core.split pieces
-AreMade old new lines added source (enabled.Reduce s j p) pieces = Events old new lines added source s.now core.reduce pieces
-AreMade old new lines added source (enabled.Shift s j) pieces = Events old new lines added source s.now core.shift pieces
-AreMade old new lines added source (enabled.Classify s j) pieces = Events old new lines added source s.now core.classify pieces
-AreMade old new lines added source (enabled.Merge s t) pieces = AreMerged old new lines added s.now t.now pieces
+AreMade old new lines added source (enabled.Split s i) pieces = Events old new lines added source s core.split pieces
+AreMade old new lines added source (enabled.Reduce s j p) pieces = Events old new lines added source s core.reduce pieces
+AreMade old new lines added source (enabled.Shift s j) pieces = Events old new lines added source s core.shift pieces
+AreMade old new lines added source (enabled.Classify s j) pieces = Events old new lines added source s core.classify pieces
+AreMade old new lines added source (enabled.Merge s t) pieces = AreMerged old new lines added s t pieces
 
 -- only a merge adds choices, between the conditions of its two subparsers
 abbrev pub AddsOwnChoices : List Line → List Line → Enabled → Type 0
-AddsOwnChoices lines added (enabled.Merge s t) = AddsChoices s.now.cond t.now.cond lines added
+AddsOwnChoices lines added (enabled.Merge s t) = AddsChoices s.cond t.cond lines added
 AddsOwnChoices lines added _ = AddsNoChoices lines added
 
 -- ---- the phases of the pieces
@@ -99,10 +99,10 @@ pub record IsPast (source : Source) (j : ℕ) (s : Subparser) : Type 0 where
 -- a piece that goes on is in a phase to which the event leads
 abbrev pub InNextPhase : Source → Enabled → Piece → Type 0
 InNextPhase source (enabled.Split s i) = IfGoing (LooksFrom i (length source.list.now))
-InNextPhase source (enabled.Reduce s j p) = IfGoing (IsReducedBy source j p s.now)
+InNextPhase source (enabled.Reduce s j p) = IfGoing (IsReducedBy source j p s)
 InNextPhase source (enabled.Shift s j) = IfGoing (IsPast source j)
 InNextPhase source (enabled.Classify s j) = IfGoing (λ next. next.phase ≡ Between (j + 1))
-InNextPhase source (enabled.Merge s t) = IfGoing (AreAlike s.now)
+InNextPhase source (enabled.Merge s t) = IfGoing (AreAlike s)
 
 -- The parts of a split look at one element after the other. Of a reduction and of a shift there is
 -- one piece, of a merge one that goes on.

@@ -17,7 +17,7 @@ use crate::source::Source;
 use lr_tables::Terminal;
 use sc_base::{Cause, Cond, OutOfMemory};
 use sc_grammar::terminal;
-use sc_merge::{Phase, Subparser};
+use sc_merge::{Head, Phase, Subparser};
 use sc_presence::Conditions;
 use std::alloc::Global;
 
@@ -27,7 +27,7 @@ pub(crate) fn classify<C: Conditions>(
     alloc: Global,
     conds: &mut C,
     source: &Source<'_>,
-    parent: &Subparser,
+    parent: &Head<'_>,
     at: usize,
 ) -> Result<Vec<Piece>, OutOfMemory>
     requires phase { parent.now.phase ≡ Phase.Named at }
@@ -73,7 +73,7 @@ pub(crate) fn classify<C: Conditions>(
 fn typedefs<C: Conditions>(
     conds: &mut C,
     source: &Source<'_>,
-    parent: &Subparser,
+    parent: &Head<'_>,
     at: usize,
 ) -> Result<Cond, OutOfMemory>
     requires at { at < length source.now.list.now }
@@ -101,7 +101,7 @@ fn add_kind<C: Conditions>(
     conds: &C,
     pieces: &mut Vec<Piece>,
     source: &Source<'_>,
-    parent: &Subparser,
+    parent: &Head<'_>,
     at: usize,
     cond: Cond,
     kind: Terminal,

@@ -7,16 +7,16 @@ use crate::event::{Event, Fact};
 use crate::row::Row;
 use crate::source::Source;
 use lr_tables::Action;
-use sc_merge::{Phase, Subparser};
+use sc_merge::{Head, Phase};
 
 /// An event with the subparsers that it names.
-#[derive(Clone, Copy)]
+#[derive(Drop)]
 pub(crate) enum Enabled<'a> {
-    Split(&'a Subparser, usize),
-    Reduce(&'a Subparser, usize, usize),
-    Shift(&'a Subparser, usize),
-    Classify(&'a Subparser, usize),
-    Merge(&'a Subparser, &'a Subparser),
+    Split(Head<'a>, usize),
+    Reduce(Head<'a>, usize, usize),
+    Shift(Head<'a>, usize),
+    Classify(Head<'a>, usize),
+    Merge(Head<'a>, Head<'a>),
 }
 
 /// The event with its subparsers, or the first fact that stands against it.
@@ -38,14 +38,14 @@ pub(crate) fn enabled_event<'a>(
         }
         Event::Reduce(number) => {
             let (parent, at) = looking(rows, number)?;
-            match reduction(source.action(parent, at)) {
+            match reduction(source.action(&parent, at)) {
                 Some(production) => Ok(Enabled::Reduce(parent, at, production)),
                 None => Err(Fact::ActionIsNoReduction),
             }
         }
         Event::Shift(number) => {
             let (parent, at) = looking(rows, number)?;
-            match reduction(source.action(parent, at)) {
+            match reduction(source.action(&parent, at)) {
                 Some(_) => Err(Fact::ActionIsReduction),
                 None => Ok(Enabled::Shift(parent, at)),
             }
@@ -72,22 +72,22 @@ fn reduction(action: Option<Action>) -> Option<usize>
     }
 }
 
-fn with_number(rows: &[Row], number: usize) -> Result<&Subparser, Fact>
-    ensures ok { IfOk result (λ subparser. Has rows.now number subparser.now) }
+fn with_number(rows: &[Row], number: usize) -> Result<Head<'_>, Fact>
+    ensures ok { IfOk result (λ head. Has rows.now number head) }
     ensures err { IfErr result (λ fact. IsMissing rows.now number fact) }
 {
     let Some(row) = rows.get(number) else {
         return Err(Fact::NoSuchSubparser);
     };
-    match row.subparser() {
-        Some(subparser) => Ok(subparser),
+    match row.head() {
+        Some(head) => Ok(head),
         None => Err(Fact::NoSuchSubparser),
     }
 }
 
 /// The subparser of the number, and the element that comes next.
-pub(crate) fn looking(rows: &[Row], number: usize) -> Result<(&Subparser, usize), Fact>
-    ensures ok { IfOk result (λ found. LooksAt rows.now number found.0.now found.1) }
+pub(crate) fn looking(rows: &[Row], number: usize) -> Result<(Head<'_>, usize), Fact>
+    ensures ok { IfOk result (λ found. LooksAt rows.now number found.0 found.1) }
     ensures err { IfErr result (IsNotLooking rows.now number) }
 {
     let parent = with_number(rows, number)?;
@@ -110,7 +110,7 @@ fn mergeable(rows: &[Row], number: usize, other: usize) -> Result<Enabled<'_>, F
     if left.phase != right.phase {
         return Err(Fact::OtherPhase);
     }
-    if !left.stack.same_states(&right.stack) {
+    if !left.stack.same_states(right.stack) {
         return Err(Fact::OtherStates);
     }
     if left.scopes.levels() != right.scopes.levels() {

@@ -168,8 +168,8 @@ impl<'a> Core<'a> {
         if self.is_given_up {
             return None;
         }
-        let subparser = self.rows.get(number)?.subparser()?;
-        Some((subparser.cond, key(subparser)))
+        let subparser = self.rows.get(number)?.head()?;
+        Some((subparser.cond, key(&subparser)))
     }
 
     /// What the subparser of the number does at the element that comes next for it, where one does.
@@ -177,10 +177,10 @@ impl<'a> Core<'a> {
         ensures looks { (s : Subparser) (at : ℕ) → LooksAt self.now.subparsers number s at → result ≡ action_in self.now.source s at }
         ensures other { ((s : Subparser) (at : ℕ) → LooksAt self.now.subparsers number s at → ⊥) → result ≡ None }
     {
-        let Ok((subparser, at)) = looking(&self.rows, number) else {
+        let Ok((head, at)) = looking(&self.rows, number) else {
             return None;
         };
-        self.source.action(subparser, at)
+        self.source.action(&head, at)
     }
 
     /// Whether no subparser is left, and the core is not given up.
@@ -320,18 +320,20 @@ fn pieces_of<C: Conditions>(
     ensures numbers { Extends (levels_made numbers.old) (levels_made numbers.new) }
 {
     match enabled {
-        Enabled::Split(parent, from) => split(alloc, conds, source, parent, from),
+        Enabled::Split(parent, from) => split(alloc, conds, source, &parent, from),
         Enabled::Reduce(parent, at, production) => {
-            let piece = reduce(alloc, conds, trees, numbers, source, parent, at, production)?;
+            let piece = reduce(
+                alloc, conds, trees, numbers, source, &parent, at, production,
+            )?;
             Ok(vec![in alloc; piece]?)
         }
         Enabled::Shift(parent, at) => {
-            let piece = shift(alloc, trees, source, parent, at)?;
+            let piece = shift(alloc, trees, source, &parent, at)?;
             Ok(vec![in alloc; piece]?)
         }
-        Enabled::Classify(parent, at) => classify(alloc, conds, source, parent, at),
+        Enabled::Classify(parent, at) => classify(alloc, conds, source, &parent, at),
         Enabled::Merge(left, right) => {
-            let merged = merge(alloc, conds, trees, numbers, left, right)?;
+            let merged = merge(alloc, conds, trees, numbers, &left, &right)?;
             Ok(vec![in alloc; Piece::Going(merged)]?)
         }
     }

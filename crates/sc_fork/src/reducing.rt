@@ -27,7 +27,7 @@ use crate::source::Source;
 use lr_tables::{Entry, Mark};
 use sc_base::{Cause, Cond, Name, OutOfMemory, TreeId};
 use sc_grammar::production;
-use sc_merge::Subparser;
+use sc_merge::{Head, Subparser};
 use sc_presence::Conditions;
 use sc_scope::{NameKind, Numbers, Scopes};
 use sc_tree::Trees;
@@ -40,7 +40,7 @@ pub(crate) fn reduce<C: Conditions>(
     trees: &mut Trees,
     numbers: &mut Numbers,
     source: &Source<'_>,
-    parent: &Subparser,
+    parent: &Head<'_>,
     at: usize,
     number: usize,
 ) -> Result<Piece, OutOfMemory>
@@ -124,7 +124,7 @@ fn marked_scopes<C: Conditions>(
     conds: &mut C,
     trees: &Trees,
     numbers: &mut Numbers,
-    parent: &Subparser,
+    parent: &Head<'_>,
     mark: Option<Mark>,
     tree: Option<TreeId>,
 ) -> Result<Scopes, OutOfMemory>

@@ -1,5 +1,5 @@
 use sc_base::OutOfMemory;
-use sc_merge::Subparser;
+use sc_merge::{Head, Subparser};
 use std::alloc::Global;
 use std::marker::Model;
 
@@ -24,7 +24,7 @@ impl Model for Row {
 }
 
 impl Row {
-    ghost use Rattle.std.specs.Prelude.{◌≡◌, ◌↔◌, None, Some, IfOk, IsTrue, option_map};
+    ghost use Rattle.std.specs.Prelude.{◌≡◌, ◌↔◌, None, Some, IfOk, IsTrue};
 
     pub(crate) fn new(alloc: Global, subparser: Subparser) -> Result<Row, OutOfMemory>
         ensures { IfOk result (λ row. row ≡ Some subparser) }
@@ -39,11 +39,11 @@ impl Row {
         Row { subparser: None }
     }
 
-    pub(crate) fn subparser(&self) -> Option<&Subparser>
-        ensures { option_map (λ subparser. subparser.now) result ≡ self.now }
+    pub(crate) fn head(&self) -> Option<Head<'_>>
+        ensures { result ≡ self.now }
     {
         match &self.subparser {
-            Some(subparser) => Some(subparser),
+            Some(subparser) => Some(subparser.head()),
             None => None,
         }
     }

@@ -24,7 +24,7 @@ use crate::source::Source;
 use lr_tables::Terminal;
 use sc_base::{Cause, OutOfMemory, Place, TreeId};
 use sc_grammar::terminal;
-use sc_merge::{Phase, Subparser};
+use sc_merge::{Head, Phase, Subparser};
 use sc_tree::Trees;
 use std::alloc::Global;
 
@@ -34,7 +34,7 @@ pub(crate) fn shift(
     alloc: Global,
     trees: &mut Trees,
     source: &Source<'_>,
-    parent: &Subparser,
+    parent: &Head<'_>,
     at: usize,
 ) -> Result<Piece, OutOfMemory>
     requires phase { parent.now.phase ≡ Phase.At at }
@@ -68,7 +68,7 @@ pub(crate) fn shift(
 }
 
 /// What parsing comes to for a subparser that ends for this cause at this place.
-pub(crate) fn refused(parent: &Subparser, cause: Cause, place: Place) -> Piece
+pub(crate) fn refused(parent: &Head<'_>, cause: Cause, place: Place) -> Piece
     ensures { result ≡ Piece.Over (record { cond = parent.now.cond; answer = Answer.Refused cause place }) }
 {
     Piece::Over(Ended {
@@ -81,7 +81,7 @@ pub(crate) fn refused(parent: &Subparser, cause: Cause, place: Place) -> Piece
 fn shift_token(
     trees: &mut Trees,
     source: &Source<'_>,
-    parent: &Subparser,
+    parent: &Head<'_>,
     at: usize,
     terminal: Terminal,
     state: usize,
@@ -119,7 +119,7 @@ const UNIT: usize = 1;
 const EMPTY_UNIT: usize = 2;
 
 /// The text is a whole one: its tree has all trees of the stack.
-fn accept(alloc: Global, trees: &mut Trees, parent: &Subparser) -> Result<Ended, OutOfMemory>
+fn accept(alloc: Global, trees: &mut Trees, parent: &Head<'_>) -> Result<Ended, OutOfMemory>
     requires { OwnsValues (length trees.old) (values_of parent.now.stack) }
     ensures accepted { IfOk result (IsAccepted trees.new parent.now) }
     ensures own { (source : Source) → IfOk result (λ ended. OwnsAnswer (length trees.new) source ended.answer) }

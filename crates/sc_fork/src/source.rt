@@ -9,7 +9,7 @@ use sc_grammar::terminal as terminals;
 use sc_guarded::Guarded;
 use sc_kinds::terminal;
 use sc_lalr::Tables;
-use sc_merge::Subparser;
+use sc_merge::Head;
 use sc_model::Standard;
 use std::alloc::Global;
 
@@ -75,7 +75,7 @@ impl<'a> Source<'a> {
     }
 
     /// What the subparser does at the element.
-    pub fn action(&self, subparser: &Subparser, at: usize) -> Option<Action>
+    pub fn action(&self, subparser: &Head<'_>, at: usize) -> Option<Action>
         ensures { result ≡ action_in self.now subparser.now at }
     {
         self.tables
@@ -83,7 +83,7 @@ impl<'a> Source<'a> {
     }
 
     /// The state behind the terminal, where the subparser shifts it.
-    pub fn state_after(&self, subparser: &Subparser, terminal: Terminal) -> Option<usize>
+    pub fn state_after(&self, subparser: &Head<'_>, terminal: Terminal) -> Option<usize>
         ensures { result ≡ state_after self.now subparser.now terminal.0 }
     {
         match self.tables.action(subparser.stack.state(), terminal)? {

@@ -12,7 +12,7 @@ ghost use Rattle.sc_tree.specs.Lines.{Line};
 use crate::piece::Piece;
 use crate::source::Source;
 use sc_base::{Cond, OutOfMemory};
-use sc_merge::{Phase, Subparser};
+use sc_merge::{Head, Phase, Subparser};
 use sc_presence::Conditions;
 use std::alloc::Global;
 
@@ -21,7 +21,7 @@ pub(crate) fn split<C: Conditions>(
     alloc: Global,
     conds: &mut C,
     source: &Source<'_>,
-    parent: &Subparser,
+    parent: &Head<'_>,
     from: usize,
 ) -> Result<Vec<Piece>, OutOfMemory>
     requires phase { parent.now.phase ≡ Phase.Between from }
@@ -51,7 +51,7 @@ pub(crate) fn split<C: Conditions>(
 }
 
 /// The part of a subparser for which the element comes next.
-fn part_of(parent: &Subparser, cond: Cond, next: usize) -> Result<Subparser, OutOfMemory>
+fn part_of(parent: &Head<'_>, cond: Cond, next: usize) -> Result<Subparser, OutOfMemory>
     ensures { IfOk result (IsPartOf parent.now (cond, next)) }
 {
     Ok(Subparser {

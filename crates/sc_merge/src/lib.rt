@@ -8,4 +8,4 @@ mod values;
 
 pub use keys::{Key, keys_tell_what_can_be_merged};
 pub use merged::merge;
-pub use subparser::{Phase, Subparser, key};
+pub use subparser::{Head, Phase, Subparser, key};

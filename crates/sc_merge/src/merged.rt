@@ -9,7 +9,7 @@ ghost use Rattle.sc_scope.specs.Search.{OwnsLevels};
 ghost use Rattle.sc_scope.specs.Seen.{levels_in};
 ghost use Rattle.sc_stack.specs.Entries.{states_of, values_of};
 
-use crate::subparser::Subparser;
+use crate::subparser::{Head, Subparser};
 use crate::values::merged_values;
 use sc_base::{Cond, OutOfMemory};
 use sc_presence::Conditions;
@@ -25,8 +25,8 @@ pub fn merge<C: Conditions>(
     conds: &mut C,
     trees: &mut Trees,
     numbers: &mut Numbers,
-    a: &Subparser,
-    b: &Subparser,
+    a: &Head<'_>,
+    b: &Head<'_>,
 ) -> Result<Subparser, OutOfMemory>
     requires a_own { OwnsSubparser (C.sets conds.old) (length trees.old) a.now }
     requires b_own { OwnsSubparser (C.sets conds.old) (length trees.old) b.now }
@@ -49,8 +49,8 @@ pub fn merge<C: Conditions>(
     ensures grows { Extends trees.old trees.new }
     ensures numbers { Extends (levels_made numbers.old) (levels_made numbers.new) }
 {
-    let stack = merged_stack(alloc, trees, a.cond, &a.stack, b.cond, &b.stack)?;
-    let scopes = merged_scopes(conds, numbers, a.cond, &a.scopes, b.cond, &b.scopes)?;
+    let stack = merged_stack(alloc, trees, a.cond, a.stack, b.cond, b.stack)?;
+    let scopes = merged_scopes(conds, numbers, a.cond, a.scopes, b.cond, b.scopes)?;
     let cond = conds.apply_or(a.cond, b.cond)?;
     Ok(Subparser {
         cond,

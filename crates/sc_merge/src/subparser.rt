@@ -1,9 +1,11 @@
+ghost use Rattle.std.specs.Prelude.{◌≡◌};
 ghost use Rattle.sc_merge.specs.Keys.{IsKeyOf};
 
 use crate::keys::Key;
 use sc_base::Cond;
 use sc_scope::Scopes;
 use sc_stack::Stack;
+use std::marker::Model;
 
 /// Where a subparser is in the list of elements.
 #[derive(Clone, Copy, Debug, PartialEq, Eq)]
@@ -25,13 +27,48 @@ pub struct Subparser {
     pub phase: Phase,
 }
 
+impl Subparser {
+    /// The subparser as it is lent.
+    pub fn head(&self) -> Head<'_>
+        ensures { result ≡ self.now }
+    {
+        Head {
+            cond: self.cond,
+            phase: self.phase,
+            stack: &self.stack,
+            scopes: &self.scopes,
+        }
+    }
+}
+
+/// A subparser as it is lent: seen as one, while its stack and its scopes stay where they are.
+#[derive(Drop)]
+pub struct Head<'a> {
+    pub cond: Cond,
+    pub phase: Phase,
+    pub stack: &'a Stack,
+    pub scopes: &'a Scopes,
+}
+
+impl<'a> Model for Head<'a> {
+    ghost use Rattle.std.specs.Coded.{codes};
+    ghost use Rattle.sc_merge.specs.contracts.subparser.Subparser as held;
+    ghost use Rattle.sc_merge.specs.declared.subparser.Subparser.{Subparser};
+
+    ghost Value = { Subparser };
+
+    ghost coded = { Prim.hlevel (codes, held.the_row.coded) };
+
+    ghost view = { λ h. record { cond = h.cond; stack = h.stack.now; scopes = h.scopes.now; phase = h.phase } };
+}
+
 /// The key of a subparser: its phase, its states and its number of levels.
-pub fn key(subparser: &Subparser) -> Key<'_>
+pub fn key<'a>(subparser: &Head<'a>) -> Key<'a>
     ensures { IsKeyOf result subparser.now }
 {
     Key {
         phase: subparser.phase,
-        stack: &subparser.stack,
+        stack: subparser.stack,
         levels: subparser.scopes.levels(),
     }
 }

@@ -23,6 +23,7 @@ fn keys_tell_phases_apart(rt: HostRuntime) -> Result<(), Fail> {
     let right = subparser(rt.alloc(), Cond(2), TreeId(2))?;
     let mut later = subparser(rt.alloc(), Cond(1), TreeId(1))?;
     later.phase = Phase::At(0);
+    let (left, right, later) = (left.head(), right.head(), later.head());
     assert!(rt; key(&left) == key(&right) && key(&left) != key(&later));
     Ok(())
 }

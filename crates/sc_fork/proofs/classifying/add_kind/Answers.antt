@@ -22,10 +22,10 @@ pub returns : goal.returns
 returns g c =
     adds-shifted (g.C.Conditions.sets c.args.conds.now) c.args.source.now c.args.parent.now c.args.at c.args.cond c.args.kind.0 c.args.pieces.now.items c.push-3.new.self.items c.in-Some.state _
     c.in_ok-push-3.ensures.items (iff_false c.is_never.ensures c.if-is_never.false) (sym c.state_after.ensures ∙ c.in-Some.is)
-    (record {
+    (rw (← c.parent.view_is) (record {
       cond_is = refl;
       stack = c.stack.view_is ∙ c.in_ok-push-2.ensures.ok ∙ ap (λ es. record { state = c.in-Some.state; value = None } ∷ es) c.in_ok-stack.ensures;
       levels = c.in_ok-share.ensures.levels;
       numbered = c.in_ok-share.ensures.numbered;
       phase = refl;
-    })
+    }))

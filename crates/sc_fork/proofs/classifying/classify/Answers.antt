@@ -1,6 +1,8 @@
+use Rattle.std.proofs.Common.{◌≡◌, ap}
 use Rattle.sc_fork.proofs.KindLemmas.{classify-events, classify-owns}
 use Rattle.sc_fork.proofs.NumberLemmas.{kinds-numbered}
 use Rattle.sc_fork.proofs.PhaseLemmas.{kind-phases}
+use Rattle.sc_merge.specs.declared.subparser.Subparser.{Subparser}
 use Rattle.sc_model.proofs.SetLemmas.{Keeps-trans, Denotes-Keeps, Denotes-self}
 use Rattle.sc_fork.proofs.classifying.classify.Goals as goal
 
@@ -16,11 +18,12 @@ returns-in_err-add_kind-2-clause-keeps g c = Keeps-trans (Keeps-trans c.typedefs
 pub returns-clause-pieces : goal.returns-clause-pieces
 returns-clause-pieces g c =
     let s = g.C.Conditions.sets in
+    let same : c.parent.inside.cond ≡ c.args.parent.now.cond = ap (λ (p : Subparser). p.cond) c.parent.view_is in
     λ lines.
     classify-events (s c.args.conds.now) (s c.apply_and.new.self) lines c.args.source.now c.args.parent.now c.args.at c.in_ok-types.types c.in_ok-variables.variables c.new-pieces.result.items
     c.add_kind.new.pieces.items c.add_kind-2.new.pieces.items c.requires.phase c.requires.at (Keeps-trans (Keeps-trans c.typedefs.ensures.keeps c.negate.ensures.keeps) c.apply_and.ensures.keeps)
     (Denotes-Keeps (Keeps-trans c.negate.ensures.keeps c.apply_and.ensures.keeps) c.in_ok-types.ensures.meaning)
-    (c.in_ok-variables.ensures.meaning _ _
+    ((rw same at c.in_ok-variables.ensures.meaning) _ _
     (Denotes-Keeps (Keeps-trans c.typedefs.ensures.keeps c.negate.ensures.keeps) (Denotes-self (s c.args.conds.now) c.args.parent.now.cond.0 c.requires.own))
     (c.in_ok-others.ensures.meaning _ c.in_ok-types.ensures.meaning))
     c.new-pieces.ensures.items c.in_ok-add_kind.ensures c.in_ok-add_kind-2.ensures

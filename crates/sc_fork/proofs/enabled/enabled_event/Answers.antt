@@ -1,7 +1,8 @@
-use Rattle.std.proofs.Common.{refl, sym, ◌∙◌}
+use Rattle.std.proofs.Common.{ap, refl, sym, ◌∙◌}
 use Rattle.std.proofs.lemmas.Result.{err_from_is_err_and}
 use Rattle.sc_fork.specs.Enabled.{can_split, can_reduce, can_shift, can_classify, not_between, not_named, no_reduction, reduction}
 use Rattle.sc_fork.proofs.EnabledLemmas.{split_missing, classify_missing, reduce_not_looking, shift_not_looking}
+use Rattle.sc_merge.specs.declared.subparser.Subparser.{Subparser}
 use Rattle.sc_fork.proofs.enabled.enabled_event.Goals as goal
 
 pub returns-in_err-parent-in-Split-clause-err : goal.returns-in_err-parent-in-Split-clause-err
@@ -29,12 +30,13 @@ returns-in_err-parent-in-Classify-clause-err c =
 
 pub returns-in-Between-clause-ok : goal.returns-in-Between-clause-ok
 returns-in-Between-clause-ok c =
-    rw (c.in-Split.is) (can_split c.in-Split.number c.in-Between.from c.in_ok-parent-in-Split.parent c.in_ok-parent-in-Split.ensures.ok c.in-Between.is)
+    rw (c.in-Split.is) (can_split c.in-Split.number c.in-Between.from c.in_ok-parent-in-Split.parent c.in_ok-parent-in-Split.ensures.ok
+    (sym (ap (λ (p : Subparser). p.phase) c.parent.view_is) ∙ c.in-Between.is))
 
 pub returns-in_default : goal.returns-in_default
 returns-in_default c = record {
   ok = tt;
-  err = rw (c.in-Split.is) (not_between c.in-Split.number c.in_ok-parent-in-Split.parent.now c.in_ok-parent-in-Split.ensures.ok c.in_default.not-Between);
+  err = rw (c.in-Split.is) (not_between c.in-Split.number _ (rw (← c.parent.view_is) at c.in_ok-parent-in-Split.ensures.ok) c.in_default.not-Between);
 }
 
 pub returns-in-Some-clause-ok : goal.returns-in-Some-clause-ok
@@ -46,13 +48,13 @@ returns-in-Some-clause-ok c =
 pub returns-in-None-clause-err : goal.returns-in-None-clause-err
 returns-in-None-clause-err c =
     rw (c.in-Reduce.is)
-    (no_reduction c.in-Reduce.number c.in_ok-parent-in-Reduce.at c.in_ok-parent-in-Reduce.parent.now c.in_ok-parent-in-Reduce.ensures.ok.has
+    (no_reduction c.in-Reduce.number c.in_ok-parent-in-Reduce.at c.in_ok-parent-in-Reduce.parent c.in_ok-parent-in-Reduce.ensures.ok.has
     c.in_ok-parent-in-Reduce.ensures.ok.phase (λ p e. c.in-None.ensures.none refl p (c.action.ensures ∙ e)))
 
 pub returns-in-Some-reduction-clause-err : goal.returns-in-Some-reduction-clause-err
 returns-in-Some-reduction-clause-err c =
     rw (c.in-Shift.is)
-    (reduction c.in-Shift.number c.in_ok-parent-in-Shift.at c.in-Some-reduction.field-0 c.in_ok-parent-in-Shift.parent.now c.in_ok-parent-in-Shift.ensures.ok.has
+    (reduction c.in-Shift.number c.in_ok-parent-in-Shift.at c.in-Some-reduction.field-0 c.in_ok-parent-in-Shift.parent c.in_ok-parent-in-Shift.ensures.ok.has
     c.in_ok-parent-in-Shift.ensures.ok.phase (sym c.action-in-Shift.ensures ∙ c.in-Some-reduction.ensures.some))
 
 pub returns-in-None-reduction-clause-ok : goal.returns-in-None-reduction-clause-ok
@@ -63,10 +65,11 @@ returns-in-None-reduction-clause-ok c =
 
 pub returns-in-Named-clause-ok : goal.returns-in-Named-clause-ok
 returns-in-Named-clause-ok c =
-    rw (c.in-Classify.is) (can_classify c.in-Classify.number c.in-Named.at c.in_ok-parent-in-Classify.parent c.in_ok-parent-in-Classify.ensures.ok c.in-Named.is)
+    rw (c.in-Classify.is) (can_classify c.in-Classify.number c.in-Named.at c.in_ok-parent-in-Classify.parent c.in_ok-parent-in-Classify.ensures.ok
+    (sym (ap (λ (p : Subparser). p.phase) c.parent-in-Classify.view_is) ∙ c.in-Named.is))
 
 pub returns-in_default-phase : goal.returns-in_default-phase
 returns-in_default-phase c = record {
   ok = tt;
-  err = rw (c.in-Classify.is) (not_named c.in-Classify.number c.in_ok-parent-in-Classify.parent.now c.in_ok-parent-in-Classify.ensures.ok c.in_default-phase.not-Named);
+  err = rw (c.in-Classify.is) (not_named c.in-Classify.number _ (rw (← c.parent-in-Classify.view_is) at c.in_ok-parent-in-Classify.ensures.ok) c.in_default-phase.not-Named);
 }

@@ -9,4 +9,4 @@ returns-in_err-parent-clause-err c =
     rw (p.1, p.2) (missing_looks c.args.rows.now c.args.number c.in_err-parent.field-0.0 c.in_err-parent.ensures.err)
 
 pub returns-in_default : goal.returns-in_default
-returns-in_default c = record { ok = tt; err = other_phase c.in_ok-parent.parent.now c.in_ok-parent.ensures.ok c.in_default.not-At }
+returns-in_default c = record { ok = tt; err = other_phase _ (rw (← c.parent.view_is) at c.in_ok-parent.ensures.ok) c.in_default.not-At }

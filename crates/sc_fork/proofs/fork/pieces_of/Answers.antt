@@ -1,92 +1,80 @@
-use Rattle.std.proofs.Common.{length}
+use Rattle.std.proofs.Common.{ap, length, subst}
 use Rattle.sc_fork.specs.declared.piece.Piece.TheVariants.{Going}
-use Rattle.sc_fork.specs.Owns.{IsNumbered, OwnsPiece}
-use Rattle.sc_fork.proofs.PhaseLemmas.{reduce-next, shift-next, merge-next, reduce-order, shift-order, merge-order}
-use Rattle.sc_fork.proofs.PieceLemmas.{split-phase, reduce-phase, reduce-action, shift-phase, shift-action, classify-phase, merge-alike, split-within, reduce-within, shift-within, classify-within, made-reduce, made-shift, made-merge, all-one, silent-alike, merged-row, merge-branches, merge-leaves}
+use Rattle.sc_fork.specs.Owns.{IsNumbered, IsWithin, OwnsPiece}
+use Rattle.sc_fork.specs.Pieces.{IfGoing, IsPast, IsReducedBy}
+use Rattle.sc_fork.proofs.PieceLemmas.{split-phase, reduce-is, shift-is, classify-phase, merge-alike, all-one, silent-alike, merged-row, merge-branches, merge-leaves}
+use Rattle.sc_merge.specs.Keys.{AreAlike}
 use Rattle.sc_fork.proofs.fork.pieces_of.Goals as goal
 
 pub split-requires-clause-phase : goal.split-requires-clause-phase
-split-requires-clause-phase g c = split-phase c.args.source.now c.args.enabled c.in-Split.parent c.in-Split.from c.in-Split.is c.requires.event
+split-requires-clause-phase g c = split-phase _ _ _ _ _ (rw c.in-Split.is at c.requires.event).1.1
 
 pub split-requires-clause-from : goal.split-requires-clause-from
-split-requires-clause-from g c =
-    split-within c.args.source.now c.args.enabled (g.C.Conditions.sets c.args.conds.now) (length c.args.trees.now) c.in-Split.parent c.in-Split.from c.in-Split.is c.requires.event c.requires.own
+split-requires-clause-from g c = subst (IsWithin (length c.args.source.now.list.now)) (split-phase _ _ _ _ _ (rw c.in-Split.is at c.requires.event).1.1) (rw c.in-Split.is at c.requires.own).within
 
 pub reduce-requires-clause-phase : goal.reduce-requires-clause-phase
-reduce-requires-clause-phase g c = reduce-phase c.args.source.now c.args.enabled c.in-Reduce.parent c.in-Reduce.at c.in-Reduce.production c.in-Reduce.is c.requires.event
+reduce-requires-clause-phase g c = (reduce-is _ _ _ _ _ _ (rw c.in-Reduce.is at c.requires.event).1.1).0
 
 pub reduce-requires-clause-at : goal.reduce-requires-clause-at
-reduce-requires-clause-at g c =
-    reduce-within c.args.source.now c.args.enabled (g.C.Conditions.sets c.args.conds.now) (length c.args.trees.now) c.in-Reduce.parent c.in-Reduce.at c.in-Reduce.production c.in-Reduce.is
-    c.requires.event c.requires.own
+reduce-requires-clause-at g c = subst (IsWithin (length c.args.source.now.list.now)) (reduce-is _ _ _ _ _ _ (rw c.in-Reduce.is at c.requires.event).1.1).0 (rw c.in-Reduce.is at c.requires.own).within
 
 pub reduce-requires-clause-action : goal.reduce-requires-clause-action
-reduce-requires-clause-action g c = reduce-action c.args.source.now c.args.enabled c.in-Reduce.parent c.in-Reduce.at c.in-Reduce.production c.in-Reduce.is c.requires.event
+reduce-requires-clause-action g c = (reduce-is _ _ _ _ _ _ (rw c.in-Reduce.is at c.requires.event).1.1).1
 
 pub shift-requires-clause-phase : goal.shift-requires-clause-phase
-shift-requires-clause-phase g c = shift-phase c.args.source.now c.args.enabled c.in-Shift.parent c.in-Shift.at c.in-Shift.is c.requires.event
+shift-requires-clause-phase g c = (shift-is _ _ _ _ _ (rw c.in-Shift.is at c.requires.event).1.1).0
 
 pub shift-requires-clause-at : goal.shift-requires-clause-at
-shift-requires-clause-at g c =
-    shift-within c.args.source.now c.args.enabled (g.C.Conditions.sets c.args.conds.now) (length c.args.trees.now) c.in-Shift.parent c.in-Shift.at c.in-Shift.is c.requires.event c.requires.own
+shift-requires-clause-at g c = subst (IsWithin (length c.args.source.now.list.now)) (shift-is _ _ _ _ _ (rw c.in-Shift.is at c.requires.event).1.1).0 (rw c.in-Shift.is at c.requires.own).within
 
 pub shift-requires-clause-no_reduction : goal.shift-requires-clause-no_reduction
-shift-requires-clause-no_reduction g c = shift-action c.args.source.now c.args.enabled c.in-Shift.parent c.in-Shift.at c.in-Shift.is c.requires.event
+shift-requires-clause-no_reduction g c = (shift-is _ _ _ _ _ (rw c.in-Shift.is at c.requires.event).1.1).1
 
 pub classify-requires-clause-phase : goal.classify-requires-clause-phase
-classify-requires-clause-phase g c = classify-phase c.args.source.now c.args.enabled c.in-Classify.parent c.in-Classify.at c.in-Classify.is c.requires.event
+classify-requires-clause-phase g c = classify-phase _ _ _ _ _ (rw c.in-Classify.is at c.requires.event).1.1
 
 pub classify-requires-clause-at : goal.classify-requires-clause-at
-classify-requires-clause-at g c =
-    classify-within c.args.source.now c.args.enabled (g.C.Conditions.sets c.args.conds.now) (length c.args.trees.now) c.in-Classify.parent c.in-Classify.at c.in-Classify.is c.requires.event
-    c.requires.own
+classify-requires-clause-at g c = subst (IsWithin (length c.args.source.now.list.now)) (classify-phase _ _ _ _ _ (rw c.in-Classify.is at c.requires.event).1.1) (rw c.in-Classify.is at c.requires.own).within
 
 pub merge-requires-clause-alike : goal.merge-requires-clause-alike
-merge-requires-clause-alike g c = merge-alike c.args.source.now c.args.enabled c.in-Merge.left c.in-Merge.right c.in-Merge.is c.requires.event
+merge-requires-clause-alike g c = merge-alike _ _ _ _ _ (rw c.in-Merge.is at c.requires.event).1.1
 
 pub merge-requires-clause-silent : goal.merge-requires-clause-silent
 merge-requires-clause-silent g c =
     let s = g.C.Conditions.sets c.args.conds.now in
     let own = rw c.in-Merge.is at c.requires.own in
-    silent-alike s (length c.args.trees.now) c.args.source.now c.in-Merge.left.now c.in-Merge.right.now c.requires.source own.0 own.1
-    (merge-alike c.args.source.now c.args.enabled c.in-Merge.left c.in-Merge.right c.in-Merge.is c.requires.event)
+    silent-alike s (length c.args.trees.now) c.args.source.now c.in-Merge.left c.in-Merge.right c.requires.source own.0 own.1
+    (merge-alike _ _ _ _ _ (rw c.in-Merge.is at c.requires.event).1.1)
 
 pub returns-in_err-merged-in-Merge-clause-branches : goal.returns-in_err-merged-in-Merge-clause-branches
 returns-in_err-merged-in-Merge-clause-branches g c =
     let s = g.C.Conditions.sets in
     let own = rw c.in-Merge.is at c.requires.own in
-    merge-branches (s c.args.conds.now) (s c.merge.new.conds) c.args.trees.now c.merge.new.trees c.in-Merge.left.now.cond c.in-Merge.right.now.cond c.merge.ensures.keeps c.requires.branches
+    merge-branches (s c.args.conds.now) (s c.merge.new.conds) c.args.trees.now c.merge.new.trees c.in-Merge.left.cond c.in-Merge.right.cond c.merge.ensures.keeps c.requires.branches
     own.0.owns.cond own.1.owns.cond c.merge.ensures.adds
 
 pub returns-in_err-vec-in-Merge-clause-branches : goal.returns-in_err-vec-in-Merge-clause-branches
 returns-in_err-vec-in-Merge-clause-branches g c =
     let s = g.C.Conditions.sets in
     let own = rw c.in-Merge.is at c.requires.own in
-    merge-branches (s c.args.conds.now) (s c.merge.new.conds) c.args.trees.now c.merge.new.trees c.in-Merge.left.now.cond c.in-Merge.right.now.cond c.merge.ensures.keeps c.requires.branches
+    merge-branches (s c.args.conds.now) (s c.merge.new.conds) c.args.trees.now c.merge.new.trees c.in-Merge.left.cond c.in-Merge.right.cond c.merge.ensures.keeps c.requires.branches
     own.0.owns.cond own.1.owns.cond c.merge.ensures.adds
 
 pub returns-in-Split-clause-own : goal.returns-in-Split-clause-own
 returns-in-Split-clause-own g c = c.split.ensures.own (length c.args.trees.now) (rw c.in-Split.is at c.requires.own)
 
 pub returns-in_ok-vec-in-Reduce-clause-pieces : goal.returns-in_ok-vec-in-Reduce-clause-pieces
-returns-in_ok-vec-in-Reduce-clause-pieces g c =
-    made-reduce c.args.source.now c.args.enabled (g.C.Conditions.sets c.args.conds.now) (g.C.Conditions.sets c.reduce.new.conds) c.args.trees.now c.reduce.new.trees
-    c.in_ok-vec-in-Reduce.field-0.items c.in_ok-piece-in-Reduce.piece c.in_ok-vec-in-Reduce.ensures.items c.in-Reduce.parent c.in-Reduce.at c.in-Reduce.production c.in-Reduce.is
-    c.in_ok-piece-in-Reduce.ensures.piece
+returns-in_ok-vec-in-Reduce-clause-pieces g c = rw (c.in-Reduce.is, c.in_ok-vec-in-Reduce.ensures.items) c.in_ok-piece-in-Reduce.ensures.piece
 
 pub returns-in_ok-vec-in-Shift-clause-pieces : goal.returns-in_ok-vec-in-Shift-clause-pieces
-returns-in_ok-vec-in-Shift-clause-pieces g c =
-    let s = g.C.Conditions.sets c.args.conds.now in
-    made-shift c.args.source.now c.args.enabled s s c.args.trees.now c.shift.new.trees c.in_ok-vec-in-Shift.field-0.items c.in_ok-piece-in-Shift.piece c.in_ok-vec-in-Shift.ensures.items
-    c.in-Shift.parent c.in-Shift.at c.in-Shift.is (c.in_ok-piece-in-Shift.ensures.piece s)
+returns-in_ok-vec-in-Shift-clause-pieces g c = rw (c.in-Shift.is, c.in_ok-vec-in-Shift.ensures.items) (c.in_ok-piece-in-Shift.ensures.piece (g.C.Conditions.sets c.args.conds.now))
 
 pub returns-in-Classify-clause-own : goal.returns-in-Classify-clause-own
 returns-in-Classify-clause-own g c = c.classify.ensures.own (length c.args.trees.now) (rw c.in-Classify.is at c.requires.own)
 
 pub returns-in_ok-vec-in-Merge-clause-pieces : goal.returns-in_ok-vec-in-Merge-clause-pieces
 returns-in_ok-vec-in-Merge-clause-pieces g c =
-    made-merge c.args.source.now c.args.enabled (g.C.Conditions.sets c.args.conds.now) (g.C.Conditions.sets c.merge.new.conds) c.args.trees.now c.merge.new.trees
-    c.in_ok-vec-in-Merge.field-0.items c.in-Merge.left c.in-Merge.right c.in-Merge.is
+    rw c.in-Merge.is
     (record {
       merged = c.in_ok-merged-in-Merge.merged;
       is = c.in_ok-vec-in-Merge.ensures.items;
@@ -104,43 +92,34 @@ returns-in_ok-vec-in-Merge-clause-own g c =
     let own = rw c.in-Merge.is at c.requires.own in
     all-one (OwnsPiece (s c.merge.new.conds) (length c.merge.new.trees) c.args.source.now) c.in_ok-vec-in-Merge.field-0.items (Going c.in_ok-merged-in-Merge.merged)
     c.in_ok-vec-in-Merge.ensures.items
-    (merged-row (s c.args.conds.now) (s c.merge.new.conds) (length c.args.trees.now) (length c.merge.new.trees) c.args.source.now c.in-Merge.left.now c.in_ok-merged-in-Merge.merged
+    (merged-row (s c.args.conds.now) (s c.merge.new.conds) (length c.args.trees.now) (length c.merge.new.trees) c.args.source.now c.in-Merge.left c.in_ok-merged-in-Merge.merged
     c.requires.source own.0 c.in_ok-merged-in-Merge.ensures.alike c.in_ok-merged-in-Merge.ensures.own c.in_ok-merged-in-Merge.ensures.trees)
 
 pub returns-in_ok-vec-in-Merge-clause-branches : goal.returns-in_ok-vec-in-Merge-clause-branches
 returns-in_ok-vec-in-Merge-clause-branches g c =
     let s = g.C.Conditions.sets in
     let own = rw c.in-Merge.is at c.requires.own in
-    merge-branches (s c.args.conds.now) (s c.merge.new.conds) c.args.trees.now c.merge.new.trees c.in-Merge.left.now.cond c.in-Merge.right.now.cond c.merge.ensures.keeps c.requires.branches
+    merge-branches (s c.args.conds.now) (s c.merge.new.conds) c.args.trees.now c.merge.new.trees c.in-Merge.left.cond c.in-Merge.right.cond c.merge.ensures.keeps c.requires.branches
     own.0.owns.cond own.1.owns.cond c.merge.ensures.adds
 
 pub returns-in_ok-vec-in-Reduce-clause-phases : goal.returns-in_ok-vec-in-Reduce-clause-phases
-returns-in_ok-vec-in-Reduce-clause-phases g c =
-    reduce-next c.args.source.now c.args.enabled c.in_ok-vec-in-Reduce.field-0.items c.in_ok-piece-in-Reduce.piece c.in_ok-vec-in-Reduce.ensures.items c.in-Reduce.parent c.in-Reduce.at
-    c.in-Reduce.production c.in-Reduce.is c.in_ok-piece-in-Reduce.ensures.reduced
+returns-in_ok-vec-in-Reduce-clause-phases g c = rw c.in-Reduce.is
+    (all-one (IfGoing (IsReducedBy c.args.source.now c.in-Reduce.at c.in-Reduce.production c.in-Reduce.parent)) _ _ c.in_ok-vec-in-Reduce.ensures.items c.in_ok-piece-in-Reduce.ensures.reduced)
 
 pub returns-in_ok-vec-in-Reduce-clause-order : goal.returns-in_ok-vec-in-Reduce-clause-order
-returns-in_ok-vec-in-Reduce-clause-order g c =
-    reduce-order c.args.source.now c.args.enabled c.in_ok-vec-in-Reduce.field-0.items c.in_ok-piece-in-Reduce.piece c.in_ok-vec-in-Reduce.ensures.items c.in-Reduce.parent c.in-Reduce.at
-    c.in-Reduce.production c.in-Reduce.is
+returns-in_ok-vec-in-Reduce-clause-order g c = rw c.in-Reduce.is (ap length c.in_ok-vec-in-Reduce.ensures.items)
 
 pub returns-in_ok-vec-in-Shift-clause-phases : goal.returns-in_ok-vec-in-Shift-clause-phases
-returns-in_ok-vec-in-Shift-clause-phases g c =
-    shift-next c.args.source.now c.args.enabled c.in_ok-vec-in-Shift.field-0.items c.in_ok-piece-in-Shift.piece c.in_ok-vec-in-Shift.ensures.items c.in-Shift.parent c.in-Shift.at c.in-Shift.is
-    c.in_ok-piece-in-Shift.ensures.phase
+returns-in_ok-vec-in-Shift-clause-phases g c = rw c.in-Shift.is (all-one (IfGoing (IsPast c.args.source.now c.in-Shift.at)) _ _ c.in_ok-vec-in-Shift.ensures.items c.in_ok-piece-in-Shift.ensures.phase)
 
 pub returns-in_ok-vec-in-Shift-clause-order : goal.returns-in_ok-vec-in-Shift-clause-order
-returns-in_ok-vec-in-Shift-clause-order g c =
-    shift-order c.args.source.now c.args.enabled c.in_ok-vec-in-Shift.field-0.items c.in_ok-piece-in-Shift.piece c.in_ok-vec-in-Shift.ensures.items c.in-Shift.parent c.in-Shift.at c.in-Shift.is
+returns-in_ok-vec-in-Shift-clause-order g c = rw c.in-Shift.is (ap length c.in_ok-vec-in-Shift.ensures.items)
 
 pub returns-in_ok-vec-in-Merge-clause-phases : goal.returns-in_ok-vec-in-Merge-clause-phases
-returns-in_ok-vec-in-Merge-clause-phases g c =
-    merge-next c.args.source.now c.args.enabled c.in_ok-vec-in-Merge.field-0.items c.in_ok-merged-in-Merge.merged c.in_ok-vec-in-Merge.ensures.items c.in-Merge.left c.in-Merge.right c.in-Merge.is
-    c.in_ok-merged-in-Merge.ensures.alike
+returns-in_ok-vec-in-Merge-clause-phases g c = rw c.in-Merge.is (all-one (IfGoing (AreAlike c.in-Merge.left)) _ _ c.in_ok-vec-in-Merge.ensures.items c.in_ok-merged-in-Merge.ensures.alike)
 
 pub returns-in_ok-vec-in-Merge-clause-order : goal.returns-in_ok-vec-in-Merge-clause-order
-returns-in_ok-vec-in-Merge-clause-order g c =
-    merge-order c.args.source.now c.args.enabled c.in_ok-vec-in-Merge.field-0.items c.in_ok-merged-in-Merge.merged c.in_ok-vec-in-Merge.ensures.items c.in-Merge.left c.in-Merge.right c.in-Merge.is
+returns-in_ok-vec-in-Merge-clause-order g c = rw c.in-Merge.is (c.in_ok-merged-in-Merge.merged, c.in_ok-vec-in-Merge.ensures.items)
 
 pub returns-in-Split-clause-numbered : goal.returns-in-Split-clause-numbered
 returns-in-Split-clause-numbered g c = c.split.ensures.numbered c.args.numbers.now (rw c.in-Split.is at c.requires.numbered)

@@ -1,10 +1,11 @@
-use Rattle.std.proofs.Common.{◌≡◌, ◌∙◌, ◌<◌, ◌∷◌, List, Option, IfSome, All, take, drop, reverse, length, refl, sym, ap, subst}
+use Rattle.std.proofs.Common.{◌≡◌, ◌∙◌, ◌<◌, ◌∷◌, List, Option, IfSome, All, take, drop, reverse, length, sym, ap, subst}
 use Rattle.sc_base.specs.declared.id.TreeId.{TreeId}
 use Rattle.sc_fork.specs.Reducing.{IsValueOf}
 use Rattle.sc_fork.proofs.ChoiceLemmas.{adds-branches}
 use Rattle.sc_fork.proofs.ReduceEvents.{in-range, never-refused, taken-own, branches-Keeps, IsReduced, is-reduced}
 use Rattle.sc_grammar.specs.Production.{production_of}
 use Rattle.sc_lalr.specs.Tables.{goto_of}
+use Rattle.sc_merge.specs.declared.subparser.Subparser.{Subparser}
 use Rattle.sc_stack.specs.Entries.{Entry, state_of, values_of}
 use Rattle.sc_fork.proofs.reducing.reduce.Given.{Over}
 use Rattle.sc_fork.proofs.reducing.reduce.Goals as goal
@@ -21,7 +22,7 @@ production-rule-requires-clause-last g c =
 pub returns-in_default-clause-piece : goal.returns-in_default-clause-piece
 returns-in_default-clause-piece g c =
     let rule = production_of c.production-rule.result in
-    let popped : c.pop.new.self ≡ drop (length rule.right) c.args.parent.now.stack = c.in_ok-values.ensures.ok ∙ ap (λ n. drop n c.in_ok-stack.stack) c.size.ensures ∙ ap (drop (length rule.right)) c.in_ok-stack.ensures in
+    let popped : c.pop.new.self ≡ drop (length rule.right) c.args.parent.now.stack = c.in_ok-values.ensures.ok ∙ ap (λ n. drop n c.in_ok-stack.stack) c.size.ensures ∙ ap (drop (length rule.right)) (c.in_ok-stack.ensures ∙ ap (λ (p : Subparser). p.stack) c.parent.view_is) in
     absurd (never-refused (g.C.Conditions.sets c.args.conds.now) (length c.args.trees.now) c.args.source.now c.args.parent.now c.args.at c.args.number rule c.requires.source c.requires.own
     c.requires.action c.production-rule.ensures
     (ap (λ (es : List Entry). goto_of c.args.source.now.tables.now (state_of es) rule.left) (sym popped) ∙ ap (λ n. goto_of c.args.source.now.tables.now n rule.left) (sym c.state.ensures)
@@ -30,7 +31,7 @@ returns-in_default-clause-piece g c =
 pub value_of-requires : goal.value_of-requires
 value_of-requires g c =
     subst (All (λ (v : Option TreeId). IfSome v (λ id. id.0 < length c.args.trees.now)))
-    (sym (c.deref.ensures.value ∙ c.in_ok-values.ensures.values ∙ ap (λ (es : List Entry). reverse (values_of (take c.size.result es))) c.in_ok-stack.ensures))
+    (sym (c.deref.ensures.value ∙ c.in_ok-values.ensures.values ∙ ap (λ (es : List Entry). reverse (values_of (take c.size.result es))) (c.in_ok-stack.ensures ∙ ap (λ (p : Subparser). p.stack) c.parent.view_is)))
     (taken-own (length c.args.trees.now) c.size.result c.args.parent.now.stack c.requires.own.owns.values)
 
 pub returns-in_err-value-clause-branches : goal.returns-in_err-value-clause-branches
@@ -48,22 +49,22 @@ returns-in_err-scopes-clause-branches g c =
 
 reduced : (g : Over) (c : After-drop-values-2 g)
     → IsReduced c.args.at c.args.number (g.C.Conditions.sets c.args.conds.now) (g.C.Conditions.sets c.marked_scopes.new.conds) c.args.trees.now c.value_of.new.trees c.args.source.now c.args.parent.now
-    (record { cond = c.args.parent.now.cond; stack = c.push.new.self; scopes = c.in_ok-scopes.scopes; phase = c.args.parent.now.phase })
+    (record { cond = c.parent.inside.cond; stack = c.push.new.self; scopes = c.in_ok-scopes.scopes; phase = c.parent.inside.phase })
 reduced g c =
     let rule = production_of c.production-rule.result in
     let s = g.C.Conditions.sets in
     let popped : c.pop.new.self ≡ drop (length rule.right) c.args.parent.now.stack =
-    c.in_ok-values.ensures.ok ∙ ap (λ n. drop n c.in_ok-stack.stack) c.size.ensures ∙ ap (drop (length rule.right)) c.in_ok-stack.ensures in
+    c.in_ok-values.ensures.ok ∙ ap (λ n. drop n c.in_ok-stack.stack) c.size.ensures ∙ ap (drop (length rule.right)) (c.in_ok-stack.ensures ∙ ap (λ (p : Subparser). p.stack) c.parent.view_is) in
     let values : c.deref.result.now ≡ reverse (values_of (take (length rule.right) c.args.parent.now.stack)) =
-    c.deref.ensures.value ∙ c.in_ok-values.ensures.values ∙ ap (λ (es : List Entry). reverse (values_of (take c.size.result es))) c.in_ok-stack.ensures
+    c.deref.ensures.value ∙ c.in_ok-values.ensures.values ∙ ap (λ (es : List Entry). reverse (values_of (take c.size.result es))) (c.in_ok-stack.ensures ∙ ap (λ (p : Subparser). p.stack) c.parent.view_is)
     ∙ ap (λ n. reverse (values_of (take n c.args.parent.now.stack))) c.size.ensures in
     is-reduced (s c.args.conds.now) (s c.marked_scopes.new.conds) c.args.trees.now c.value_of.new.trees c.args.source.now c.args.parent.now
-    (record { cond = c.args.parent.now.cond; stack = c.push.new.self; scopes = c.in_ok-scopes.scopes; phase = c.args.parent.now.phase }) c.args.at c.args.number c.in-Some.state rule c.in_ok-value.value
+    (record { cond = c.parent.inside.cond; stack = c.push.new.self; scopes = c.in_ok-scopes.scopes; phase = c.parent.inside.phase }) c.args.at c.args.number c.in-Some.state rule c.in_ok-value.value
     c.requires.source c.requires.phase c.requires.action c.requires.own c.marked_scopes.ensures.keeps c.value_of.ensures.grows c.production-rule.ensures
     (ap (λ (es : List Entry). goto_of c.args.source.now.tables.now (state_of es) rule.left) (sym popped) ∙ ap (λ n. goto_of c.args.source.now.tables.now n rule.left) (sym c.state.ensures)
     ∙ sym c.goto.ensures ∙ c.in-Some.is)
-    (subst (λ (vs : List (Option TreeId)). IsValueOf c.value_of.new.trees c.args.number vs c.in_ok-value.value) values c.in_ok-value.ensures.value) c.in_ok-value.ensures.own refl
-    (c.in_ok-push.ensures.ok ∙ ap (λ (es : List Entry). record { state = c.in-Some.state; value = c.in_ok-value.value } ∷ es) popped) refl c.in_ok-scopes.ensures.own c.in_ok-scopes.ensures.levels
+    (subst (λ (vs : List (Option TreeId)). IsValueOf c.value_of.new.trees c.args.number vs c.in_ok-value.value) values c.in_ok-value.ensures.value) c.in_ok-value.ensures.own (ap (λ (p : Subparser). p.cond) c.parent.view_is)
+    (c.in_ok-push.ensures.ok ∙ ap (λ (es : List Entry). record { state = c.in-Some.state; value = c.in_ok-value.value } ∷ es) popped) (ap (λ (p : Subparser). p.phase) c.parent.view_is) c.in_ok-scopes.ensures.own c.in_ok-scopes.ensures.levels
 
 pub returns-clause-piece : goal.returns-clause-piece
 returns-clause-piece g c = λ names files input t is seen. (reduced g c).pieces names files input t is.names_differ is seen

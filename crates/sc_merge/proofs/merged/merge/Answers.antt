@@ -15,20 +15,26 @@ returns-clause-own g c = record {
 pub returns-clause-cond : goal.returns-clause-cond
 returns-clause-cond g c =
     let keeps = c.merged_scopes.ensures.keeps in
-    λ f h a b. c.in_ok-cond.ensures.meaning f h (Denotes-Keeps keeps a) (Denotes-Keeps keeps b)
+    rw (← c.a.view_is, ← c.b.view_is) (λ f h a b. c.in_ok-cond.ensures.meaning f h (Denotes-Keeps keeps a) (Denotes-Keeps keeps b))
 
 pub returns-clause-alike : goal.returns-clause-alike
-returns-clause-alike g c = record { phase = refl; states = c.in_ok-stack.ensures.states; levels = c.in_ok-scopes.ensures.count }
+returns-clause-alike g c = rw (← c.a.view_is) (record { phase = refl; states = c.in_ok-stack.ensures.states; levels = c.in_ok-scopes.ensures.count })
 
 pub returns-clause-trees : goal.returns-clause-trees
-returns-clause-trees g c = values-some c.in_ok-stack.ensures.left
+returns-clause-trees g c = rw (← c.a.view_is) (values-some c.in_ok-stack.ensures.left)
 
 pub returns-clause-first : goal.returns-clause-first
 returns-clause-first g c =
-    shown-merged _ _ c.args.a.now.cond c.args.b.now.cond c.args.a.now _ c.merged_scopes.ensures.keeps c.apply_or.ensures.keeps c.requires.a_own.cond
-    c.requires.b_own.cond c.in_ok-stack.ensures.left c.in_ok-scopes.ensures.left c.in_ok-scopes.ensures.own
+    let a_own = rw (← c.a.view_is) at c.requires.a_own in
+    let b_own = rw (← c.b.view_is) at c.requires.b_own in
+    rw (← c.a.view_is, ← c.b.view_is)
+    (shown-merged _ _ _ _ _ _ c.merged_scopes.ensures.keeps c.apply_or.ensures.keeps a_own.cond b_own.cond c.in_ok-stack.ensures.left
+    c.in_ok-scopes.ensures.left c.in_ok-scopes.ensures.own)
 
 pub returns-clause-second : goal.returns-clause-second
 returns-clause-second g c =
-    shown-merged _ _ c.args.b.now.cond c.args.a.now.cond c.args.b.now _ c.merged_scopes.ensures.keeps c.apply_or.ensures.keeps c.requires.b_own.cond
-    c.requires.a_own.cond c.in_ok-stack.ensures.right c.in_ok-scopes.ensures.right c.in_ok-scopes.ensures.own
+    let a_own = rw (← c.a.view_is) at c.requires.a_own in
+    let b_own = rw (← c.b.view_is) at c.requires.b_own in
+    rw (← c.a.view_is, ← c.b.view_is)
+    (shown-merged _ _ _ _ _ _ c.merged_scopes.ensures.keeps c.apply_or.ensures.keeps b_own.cond a_own.cond c.in_ok-stack.ensures.right
+    c.in_ok-scopes.ensures.right c.in_ok-scopes.ensures.own)

@@ -1,4 +1,4 @@
-use Rattle.std.proofs.Common.{refl, ap, sym, subst, ◌∙◌, List, Option}
+use Rattle.std.proofs.Common.{ap, sym, subst, ◌∙◌, List, Option}
 use Rattle.sc_fork.specs.Enabled.{Has}
 use Rattle.sc_fork.specs.View.{View}
 use Rattle.sc_fork.proofs.EnabledLemmas.{has_at}
@@ -7,13 +7,13 @@ use Rattle.sc_fork.proofs.fork.Core.look.Goals as goal
 
 pub returns-clause-some : goal.returns-clause-some
 returns-clause-some c =
-    let s = c.in_ok-subparser.subparser.now in
+    let s = c.in_ok-subparser.subparser in
     let l = c.in_ok-get.ensures.lookup in (
       s,
       (
         subst (λ (rows : List (Option Subparser)). Has rows c.args.number s) (c.deref.ensures.value ∙ ap (λ (v : View). v.subparsers) c.self.view_is)
             (has_at c.deref.result.now c.args.number c.in_ok-get.field-0.now s l.3.0 l.1 (sym c.in_ok-subparser.ensures)),
-        refl,
+        ap (λ (p : Subparser). p.cond) c.subparser.view_is,
         c.key.ensures,
       ),
     )
