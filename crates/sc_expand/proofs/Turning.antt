@@ -22,10 +22,10 @@ use Rattle.sc_expand.specs.declared.frame.Frame.{Frame}
 use Rattle.sc_expand.specs.Machine.{IsExpansion, IsHeldExpansion, IsResumed, Progress, Stands, at, at_call, rests, state_in, with_call}
 use Rattle.sc_expand.specs.Having.{HasLast, HasMore}
 use Rattle.sc_expand.specs.Running as running
-use Rattle.sc_expand.specs.Running.{GoesOn, IsAsLong, IsReady, IsTurned, KeepsLeft, PutsOut, Rest, TakesFirst, bottom, bottom_by, last_of, next_by, next_of, put_by, put_out}
+use Rattle.sc_expand.specs.Running.{GoesOn, IsAsLong, IsReady, IsTurned, KeepsLeft, Pushes, PutsOut, Rest, TakesFirst, bottom, bottom_by, last_of, next_by, next_of, put_by, put_out}
 use Rattle.sc_expand.specs.Seen.{AreHeld, Grows, IsHeldCall, IsHeldEnclosing, IsHeldFrame, Stores, View, calls_at, provenance_of, seen_at, view_at, waiting_at}
 use Rattle.sc_expand.specs.Unchanged as unchanged
-use Rattle.sc_expand.specs.Unchanged.{IsUncalled, LooksUpNone, Passes}
+use Rattle.sc_expand.specs.Unchanged.{IsPushed, IsUncalled, LooksUpNone, Passes}
 use Rattle.sc_hoist.specs.Alike.{AreAlike}
 use Rattle.sc_model.proofs.SetLemmas.{IsConfig-Keeps}
 use Rattle.sc_model.specs.Sets.{IsConfig, Sets}
@@ -208,6 +208,18 @@ module _ {old new : Stores} (grows : Grows old new) (e after : Expansion) (same 
           let now : (bottom after).work ≡ b.frame.work = ap (λ b. (bottom_by b.items after.top).work) same ∙ ap (λ l. (bottom_by l after.top).work) is in
           running.all (omega (arith, ap length was, ap length now))
 
+  -- only what is put out there is put out of the whole list
+  push-taken : ((x : Cond × Hidden) → slice_get e.top.work 0 ≡ Some x → (cond : Cond) × IsPushed new.sets cond x.1 e.top.out after.top.out) → Pushes new.sets e after true
+  push-taken pushes = by e.below.items refl
+    where
+      by : (bs : List Enclosing) → e.below.items ≡ bs → Pushes new.sets e after true
+      by [] is =
+          let was : put_out e ≡ e.top.out = ap (λ l. put_by l e.top) is in
+          let now : put_out after ≡ after.top.out = ap (λ b. put_by b.items after.top) same ∙ ap (λ l. put_by l after.top) is in
+          let p = pushes item first in
+          running.first item p.0 is none first (subst (λ (z : List (Cond × Hidden) × List (Cond × Hidden)). IsPushed new.sets p.0 item.1 z.0 z.1) (λ i. (sym was i, sym now i)) p.1)
+      by (b ∷ bs) is = running.nothing (ap (λ b. put_by b.items after.top) same ∙ (ap (λ l. put_by l after.top) is ∙ sym (ap (λ l. put_by l e.top) is)))
+
 -- it is as it was
 module _ (st : Stores) (e after : Expansion) (same : (bottom after).work ≡ (bottom e).work) where
   rest-same : {files : ℕ} {c : List ℕ} → IsHeldExpansion st files e → IsConfig st.sets.arities c → Rest st st e after c
@@ -230,16 +242,17 @@ left-over {old} {new} e after calls r popped kept = record {
 
 module _ {old new : Stores} (grows : Grows old new) (files : List (List ℕ)) (macros : List ℕ → Macros) (e after : Expansion) (is : IsExpansion old (length files) e) where
   -- a turn of the configurations that have what is next
-  next-turn : (next : Cond) → next_of e ≡ Some next → IsReady old.sets e → IsHeldExpansion new (length files) after → PutsOut old new e.refusals.live.0 (put_out e) (put_out after) → KeepsLeft old new e after
+  next-turn : (next : Cond) → next_of e ≡ Some next → IsReady old.sets e → IsHeldExpansion new (length files) after → PutsOut old new e.refusals.live.0 (put_out e) (put_out after) → Pushes new.sets e after true → KeepsLeft old new e after
       → ((c d : List ℕ) → IsConfig old.sets.arities c → IsConfig old.sets.arities d → DefineNextAlike old (macros c) (macros d) c e → CallNextAlike old (macros c) c d e → IsAlikeExpansion old.sets c d no_others e → AreAlike old.sets c d e.rest → AreAlike new.sets c d after.rest) → IsAsLong e after → ((c : List ℕ) → IsConfig old.sets.arities c → Rest old new e after c)
       → (IsUncalled e → LooksUpNone old.sets old.names macros e → Passes new.sets e after)
       → ((c d : List ℕ) (others : Others) → IsConfig old.sets.arities c → IsConfig old.sets.arities d → DefineNextAlike old (macros c) (macros d) c e → CallNextAlike old (macros c) c d e → IsFirstIn others e
       → IsAlikeExpansion old.sets c d others e → IsAlikeExpansion new.sets c d others after)
       → ((c : List ℕ) → IsConfig old.sets.arities c → Progress (provenance_of files) (macros c) old new c e.below.items after.below.items (at old e c) (at new after c) (old.sets.has next.0 c)) → IsTurned files macros old new e after true
-  next-turn next here ready held out left alike_left long rest passes alike progress = record {
+  next-turn next here ready held out pushes left alike_left long rest passes alike progress = record {
     grows = grows;
     held = held;
     out = out;
+    pushes = pushes;
     takes = λ c. old.sets.has next.0 c;
     progress = progress;
     left = left;
@@ -256,9 +269,11 @@ module _ {old new : Stores} (grows : Grows old new) (files : List (List ℕ)) (m
   pub called-turn : (calls : Vec Call) (call : Call) → e.top.calls.items ≡ calls.items ++ call ∷ [] → IsReady old.sets e → GoesOn old new (with_calls e calls) after call → IsTurned files macros old new e after true
   called-turn calls call popped ready gone =
       let whole : (bottom (with_calls e calls)).work ≡ (bottom e).work = bottom-same e.below.items (with_calls e calls).top e.top refl in
+      let out : put_out after ≡ put_out e = gone.out ∙ put-same e.below.items (with_calls e calls).top e.top refl in
       next-turn call.cond (next-call e calls.items call popped) ready
       (gone.held (length files) (popped-held e is.held calls (Some call) popped) (call-held e is.held calls call popped))
-      (puts-same grows e.refusals.live.0 e after is.held (gone.out ∙ put-same e.below.items (with_calls e calls).top e.top refl))
+      (puts-same grows e.refusals.live.0 e after is.held out)
+      (running.nothing out)
       (left-over e after calls (Some call) popped (gone.left (length files) (popped-held e is.held calls (Some call) popped) (call-held e is.held calls call popped)))
       (λ c d p q defines same inside all. rest-alike after grows is.held gone.waits p q all)
       (running.all (omega (arith, gone.long, ap length whole)))
@@ -271,6 +286,7 @@ module _ {old new : Stores} (grows : Grows old new) (files : List (List ℕ)) (m
       → TakesFirst files macros old new (with_calls e calls) after item.0.0 → IsTurned files macros old new e after true
   taken-turn calls none item first ready taken = next-turn item.0 (next-first e item none.before first) ready taken.held
       (puts-top grows e.refusals.live.0 e after is.held taken.below taken.out)
+      (push-taken grows e after taken.below none.before item first taken.pushes)
       (left-over e after calls None (none-split none) taken.left)
       (λ c d p q defines same inside all. taken.alike_left c d p q (defines-next e calls none defines) (calls-next e calls none same) (none-alike e inside calls none) all)
       (long-taken grows e after taken.below none.before item first taken.long)
@@ -291,22 +307,25 @@ module _ (st : Stores) (files : List (List ℕ)) (macros : List ℕ → Macros) 
       ap (λ b. (bottom_by b.items after.top).work) later
       ∙ (bottom-same below.items after.top o.frame work ∙ (sym (ap (λ f. f.work) (bottom-less below.items o e.top)) ∙ sym (ap (λ bs. (bottom_by bs e.top).work) less)))
 
+  left-out : (below : Vec Enclosing) (o : Enclosing) → e.below.items ≡ below.items ++ o ∷ [] → after.top.out ≡ o.frame.out → after.below ≡ below → put_out after ≡ put_out e
+  left-out below o less out later =
+      ap (λ b. put_by b.items after.top) later ∙ (put-same below.items after.top o.frame out ∙ (sym (put-less below.items o e.top) ∙ sym (ap (λ bs. put_by bs e.top) less)))
+
   pub left-turn : (calls : Vec Call) (below : Vec Enclosing) (o : Enclosing) → IsNone Call e.top.calls.items calls.items → e.top.work ≡ [] → e.below.items ≡ below.items ++ o ∷ [] → IsReady st.sets e
       → IsResumed o e.top.out after.top.calls.items → after.top.work ≡ o.frame.work → after.top.out ≡ o.frame.out → after.refusals ≡ e.refusals → after.below ≡ below → after.rest ≡ e.rest → IsTurned files macros st st e after true
   left-turn calls below o none empty less ready resumed work out refusals later waiting = record {
     grows = Grows-refl st;
     held = left-held (provenance_of files) (macros []) st [] below.items o (with_below e calls below) after resumed work out refusals empty none.after waiting (length files)
         (below-held e is.held calls None below (Some o) (none-split none) less) (enclosing-held e is.held calls below o less) later;
-    out = puts-same (Grows-refl st) e.refusals.live.0 e after is.held
-        (ap (λ b. put_by b.items after.top) later ∙ (put-same below.items after.top o.frame out ∙ (sym (put-less below.items o e.top) ∙ sym (ap (λ bs. put_by bs e.top) less))));
+    out = puts-same (Grows-refl st) e.refusals.live.0 e after is.held (left-out below o less out later);
+    pushes = running.nothing (left-out below o less out later);
     takes = λ c. st.sets.has o.call.cond.0 c;
     progress = λ c listed.
         subst (λ b. Progress (provenance_of files) (macros c) st st c e.below.items b.items (at st e c) (at st after c) (st.sets.has o.call.cond.0 c)) (sym later)
         (subst (λ bs. Progress (provenance_of files) (macros c) st st c bs below.items (at st e c) (at st after c) (st.sets.has o.call.cond.0 c)) (sym less)
         (left-progress (provenance_of files) (macros c) st c below.items o e after resumed work out refusals empty none.before waiting));
     alike_left = λ c d p q defines same inside all. rest-alike after (Grows-refl st) is.held waiting p q all;
-    left = same-left (Grows-refl st) e after is.held waiting (left-bottom below o less work later)
-        (ap (λ b. put_by b.items after.top) later ∙ (put-same below.items after.top o.frame out ∙ (sym (put-less below.items o e.top) ∙ sym (ap (λ bs. put_by bs e.top) less))));
+    left = same-left (Grows-refl st) e after is.held waiting (left-bottom below o less work later) (left-out below o less out later);
     long = long-same st e after (left-bottom below o less work later);
     which = λ cond is c. ap (λ (k : Cond). st.sets.has k.0 c) (some-same (sym (next-argument e below.items o none.before empty less) ∙ is));
     some = λ went. ready.some o.call.cond (next-argument e below.items o none.before empty less);
@@ -319,13 +338,16 @@ module _ (st : Stores) (files : List (List ℕ)) (macros : List ℕ → Macros) 
   alone-bottom : (calls : Vec Call) (below : Vec Enclosing) → IsNone Enclosing e.below.items below.items → (bottom (with_below e calls below)).work ≡ (bottom e).work
   alone-bottom calls below less = ap (λ bs. (bottom_by bs (with_calls e calls).top).work) (less.after ∙ sym less.before) ∙ bottom-same e.below.items (with_calls e calls).top e.top refl
 
+  alone-out : (calls : Vec Call) (below : Vec Enclosing) → IsNone Enclosing e.below.items below.items → put_out (with_below e calls below) ≡ put_out e
+  alone-out calls below less = ap (λ bs. put_by bs (with_calls e calls).top) (less.after ∙ sym less.before) ∙ put-same e.below.items (with_calls e calls).top e.top refl
+
   -- nothing was left
   pub no-turn : (calls : Vec Call) (below : Vec Enclosing) → IsNone Call e.top.calls.items calls.items → e.top.work ≡ [] → IsNone Enclosing e.below.items below.items → IsTurned files macros st st e (with_below e calls below) false
   no-turn calls below none empty less = record {
     grows = Grows-refl st;
     held = below-held e is.held calls None below None (none-split none) (none-split less);
-    out = puts-same (Grows-refl st) e.refusals.live.0 e (with_below e calls below) is.held
-        (ap (λ bs. put_by bs (record e.top { calls = calls })) (less.after ∙ sym less.before) ∙ put-same e.below.items (record e.top { calls = calls }) e.top refl);
+    out = puts-same (Grows-refl st) e.refusals.live.0 e (with_below e calls below) is.held (alone-out calls below less);
+    pushes = running.nothing (alone-out calls below less);
     takes = λ c. false;
     progress = λ c listed.
         let same = at-none st c e calls none in
@@ -336,8 +358,7 @@ module _ (st : Stores) (files : List (List ℕ)) (macros : List ℕ → Macros) 
           ap (λ v. state_in st e.below.items v c) (sym view) ∙ ap (λ bs. state_in st bs (view_at st (record e.top { calls = calls }) c) c) (sym lists),
         ));
     alike_left = λ c d p q defines same inside all. rest-alike (with_below e calls below) (Grows-refl st) is.held refl p q all;
-    left = same-left (Grows-refl st) e (with_below e calls below) is.held refl (alone-bottom calls below less)
-        (ap (λ bs. put_by bs (record e.top { calls = calls })) (less.after ∙ sym less.before) ∙ put-same e.below.items (record e.top { calls = calls }) e.top refl);
+    left = same-left (Grows-refl st) e (with_below e calls below) is.held refl (alone-bottom calls below less) (alone-out calls below less);
     long = long-same st e (with_below e calls below) (alone-bottom calls below less);
     which = λ cond is c. absurd (not-some-none (sym (next-none e none.before empty less.before) ∙ is));
     some = λ went. absurd (true≢false (sym went));

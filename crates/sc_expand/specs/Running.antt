@@ -15,7 +15,7 @@ use Rattle.sc_expand.specs.Having.{HasLast, HasMore, behind_at}
 use Rattle.sc_expand.specs.Machine.{IsHeldExpansion, Progress, at, at_call}
 use Rattle.sc_expand.specs.Seen.{Grows, IsHeldCall, Stores, provenance_of, seen_at}
 use Rattle.sc_expand.specs.Turn.{Turn}
-use Rattle.sc_expand.specs.Unchanged.{Drops, IsUncalled, LooksUpNone, Passes}
+use Rattle.sc_expand.specs.Unchanged.{Drops, IsPushed, IsUncalled, LooksUpNone, Passes}
 use Rattle.sc_expand.specs.Waiting.{KeepsFirst}
 use Rattle.sc_hoist.specs.Alike.{AreAlike}
 use Rattle.sc_model.specs.Sets.{Sets, IsConfig, IsNever}
@@ -76,6 +76,12 @@ put_out e = put_by e.below.items e.top
 pub record PutsOut (old new : Stores) (live : ℕ) (before after : List (Cond × Hidden)) : Type 0 where
   pub apart : (c : List ℕ) → IsConfig old.sets.arities c → old.sets.has live c ≡ false → seen_at new after c ≡ seen_at old before c
   pub some : All (λ item. IsNever old.sets item.0.0 → ⊥) before → All (λ item. IsNever new.sets item.0.0 → ⊥) after
+
+-- A turn puts nothing out of the whole list, or the token that stands first there.
+pub data Pushes (s : Sets) (e after : Expansion) : Bool → Type 0 where
+  nothing : {went : Bool} → put_out after ≡ put_out e → Pushes s e after went
+  first : (item : Cond × Hidden) (cond : Cond) → e.below.items ≡ [] → e.top.calls.items ≡ [] → slice_get e.top.work 0 ≡ Some item
+      → IsPushed s cond item.1 (put_out e) (put_out after) → Pushes s e after true
 
 -- ---- what waits
 
@@ -139,6 +145,7 @@ pub record IsTurned (files : List (List ℕ)) (macros : List ℕ → Macros) (ol
   pub grows : Grows old new
   pub held : IsHeldExpansion new (length files) after
   pub out : PutsOut old new e.refusals.live.0 (put_out e) (put_out after)
+  pub pushes : Pushes new.sets e after went
   pub takes : List ℕ → Bool
   pub progress : (c : List ℕ) → IsConfig old.sets.arities c
       → Progress (provenance_of files) (macros c) old new c e.below.items after.below.items (at old e c) (at new after c) (takes c)
@@ -190,6 +197,7 @@ pub record TakesFirst (files : List (List ℕ)) (macros : List ℕ → Macros) (
   pub below : now.below ≡ was.below
   pub turns : (c : List ℕ) → IsConfig old.sets.arities c → Turn (provenance_of files) (macros c) (at old was c) (at new now c) (old.sets.has has c)
   pub out : PutsOut old new was.refusals.live.0 was.top.out now.top.out
+  pub pushes : (item : Cond × Hidden) → slice_get was.top.work 0 ≡ Some item → (cond : Cond) × IsPushed new.sets cond item.1 was.top.out now.top.out
   pub left : KeepsLeft old new was now
   pub alike_left : (c d : List ℕ) → IsConfig old.sets.arities c → IsConfig old.sets.arities d → DefineNextAlike old (macros c) (macros d) c was → CallNextAlike old (macros c) c d was
       → IsAlikeExpansion old.sets c d no_others was → AreAlike old.sets c d was.rest → AreAlike new.sets c d now.rest

@@ -15,6 +15,7 @@ use Rattle.sc_expand.specs.Machine.{IsHeldExpansion, at}
 use Rattle.sc_expand.specs.Seen.{Grows, provenance_of, seen_at, stores}
 use Rattle.sc_expand.specs.Taking.{HasPutOut}
 use Rattle.sc_expand.specs.Turn.{Turn}
+use Rattle.sc_expand.specs.Unchanged.{IsPushed}
 use Rattle.sc_model.proofs.SetLemmas.{IsConfig-Keeps, IsConfig-kept, Keeps-trans}
 use Rattle.sc_model.specs.Growth.{Extends}
 use Rattle.sc_hoist.specs.Alike.{AreAlike}
@@ -27,6 +28,7 @@ use Rattle.sc_expand.proofs.AlikeGathering.{each-same-call}
 use Rattle.sc_expand.proofs.AlikeLemmas.{AreAlike-Keeps, IsAlike-Keeps, alike-of, in-whole, whole, whole-in, IsAlikeExpansion-Keeps, IsAlikeIn-Keeps}
 use Rattle.sc_expand.proofs.AlikeTaking.{alike-first, put-alike, same-long, takes-name, whole-same}
 use Rattle.sc_expand.proofs.LastLemmas.{last-earlier, last-later}
+use Rattle.sc_expand.proofs.Rests.{some-same}
 use Rattle.sc_expand.proofs.StopsLemmas.{stops-earlier}
 use Rattle.sc_expand.proofs.TakenLemmas.{long-put, taken-put}
 use Rattle.sc_expand.proofs.WorkListLemmas.{has_each-Keeps}
@@ -140,6 +142,10 @@ returns g c =
               (refused-out known grows told next later told.held put x listed dead);
           some = λ some. pushed-some put.out (subst SomeHas (sym told.lists.out) (some-Keeps all.sets was.top.out held.top.out.own some));
         };
+        pushes = λ first is. (
+          taken.stays,
+          subst (λ (z : (Cond × Hidden) × List (Cond × Hidden)). IsPushed s3 taken.stays z.0.1 z.1 next.top.out) (λ i. (some-same (sym c.requires.first ∙ is) i, told.lists.out i)) put.out,
+        );
         passes = λ uncalled looks.
             let undefined = first-undefined known looks in
             let same = told.undefined undefined in
