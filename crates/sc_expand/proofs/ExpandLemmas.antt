@@ -11,7 +11,7 @@ use Rattle.sc_base.specs.declared.fault.Fault.{Fault}
 use Rattle.sc_base.specs.declared.id.Name.{Name}
 use Rattle.sc_base.specs.declared.token.Token.{Token}
 use Rattle.sc_base.specs.Seen.{IsHeld, seen}
-use Rattle.sc_expand.proofs.Ending.{bared}
+use Rattle.sc_expand.proofs.Ending.{bared, items-bared}
 use Rattle.sc_expand.proofs.AlikeLemmas.{AreAlike-Keeps, AreAlikeFaults-Keeps, all-back}
 use Rattle.sc_expand.proofs.PuttingOut.{some-Keeps}
 use Rattle.sc_expand.proofs.SettledEnds.{held-closed, settles-closed}
@@ -69,11 +69,11 @@ closed-few names hides [] is = refl
 closed-few names hides (x ∷ []) is = refl
 closed-few names hides (x ∷ (y ∷ ys)) is = absurd (cc)
 
-module _ (old new last : Sets) (names later : List (List ℕ)) (hides now : List (List Name)) (files : List (List ℕ)) (macros : Macros) (c : List ℕ) (work : List (Cond × Hidden)) (s : Settled) (list : List (Cond × Token)) (live : Cond)
+module _ (old new last : Sets) (names later : List (List ℕ)) (hides now : List (List Name)) (files : List (List ℕ)) (macros : List ℕ → Macros) (c : List ℕ) (work : List (Cond × Hidden)) (s : Settled) (list : List (Cond × Token)) (live : Cond)
     (more answer : Expanded) (tokens : map bared work ≡ list) (unhidden : All (λ (x : Cond × Hidden). set_at hides x.1.hide.0 ≡ []) work)
     (list_is : answer.list ≡ s.done ++ more.list) (faults_are : answer.faults.items ≡ s.held.items ++ more.faults.items)
     (first : Keeps old new) (second : Keeps new last) (held : IsHeldSettled (stores new later now) (length files) s) (live_own : IsCond old live.0) (listed : IsConfig old.arities c)
-    (is_closed : IsClosed new last s.rest live.0 more) (is : IsSettled (stores new later now) files s macros (seen_at (stores old names hides) work c) c (old.has live.0 c)) where
+    (is_closed : IsClosed new last s.rest live.0 more) (is : IsSettled (stores old names hides) (stores new later now) files macros work live.0 s) where
   listed1 : IsConfig new.arities c
   listed1 = IsConfig-Keeps first listed
 
@@ -81,7 +81,7 @@ module _ (old new last : Sets) (names later : List (List ℕ)) (hides now : List
   source = source-is old names hides c work unhidden ∙ ap (λ l. map (begun names) (items_at old l c)) tokens
 
   abbrev out : List Hidden
-  out = is.out
+  out = items_at new is.out c
 
   abbrev rest : List Hidden
   rest = items_at new s.rest c
@@ -96,7 +96,7 @@ module _ (old new last : Sets) (names later : List (List ℕ)) (hides now : List
   items : items_at last answer.list c ≡ map (λ (h : Hidden). h.token) out ++ items_at last more.list c
   items =
       ap (λ l. items_at last l c) list_is
-      ∙ (items_at-append last s.done more.list c ∙ ap (λ l. l ++ items_at last more.list c) (items_at-Keeps s.done c second held.own listed1 ∙ is.done))
+      ∙ (items_at-append last s.done more.list c ∙ ap (λ l. l ++ items_at last more.list c) (items_at-Keeps s.done c second held.own listed1 ∙ (ap (λ l. items_at new l c) is.tokens ∙ items-bared new is.out c)))
 
   under : (b : Bool) → old.has live.0 c ≡ b → new.has live.0 c ≡ b
   under b here = first.at live.0 c live_own listed ∙ here
@@ -111,44 +111,44 @@ module _ (old new last : Sets) (names later : List (List ℕ)) (hides now : List
   no-faults none = none-found seen_failure (faults_at last answer.faults.items c) none
 
   settled-expanded : (several : Bool) → is_several rest ≡ several → old.has live.0 c ≡ true → failures_at new s.held.items c ≡ []
-      → Expands (provenance_of files) macros (map (begun names) (items_at old list c)) (after_these (map (seen_hidden later now) out) (closed (map (seen_hidden later now) rest))) → IsExpanded last later files answer macros (map (seen names files) (items_at old list c)) c
+      → Expands (provenance_of files) (macros c) (map (begun names) (items_at old list c)) (after_these (map (seen_hidden later now) out) (closed (map (seen_hidden later now) rest))) → IsExpanded last later files answer (macros c) (map (seen names files) (items_at old list c)) c
   settled-expanded false few here none d =
       let both = sym (map-append (seen_hidden later now) out rest) in
-      expanded-list last names later files answer macros c (items_at old list c) now (out ++ rest)
-      (subst (Expands (provenance_of files) macros (map (begun names) (items_at old list c))) (ap (after_these (map (seen_hidden later now) out)) (closed-few later now rest few) ∙ ap (λ l. Ok l) both) d)
+      expanded-list last names later files answer (macros c) c (items_at old list c) now (out ++ rest)
+      (subst (Expands (provenance_of files) (macros c) (map (begun names) (items_at old list c))) (ap (after_these (map (seen_hidden later now) out)) (closed-few later now rest few) ∙ ap (λ l. Ok l) both) d)
       (items ∙ (ap (λ l. map (λ (h : Hidden). h.token) out ++ l) (more-items true false here few) ∙ sym (map-append (λ (h : Hidden). h.token) out rest)))
       (no-faults (faults ∙ (λ i. none i ++ more-faults true false here few i)))
   settled-expanded true many here none d = by rest refl many d
     where
       by : (r : List Hidden) → rest ≡ r → is_several r ≡ true
-          → Expands (provenance_of files) macros (map (begun names) (items_at old list c)) (after_these (map (seen_hidden later now) out) (closed (map (seen_hidden later now) rest))) → IsExpanded last later files answer macros (map (seen names files) (items_at old list c)) c
+          → Expands (provenance_of files) (macros c) (map (begun names) (items_at old list c)) (after_these (map (seen_hidden later now) out) (closed (map (seen_hidden later now) rest))) → IsExpanded last later files answer (macros c) (map (seen names files) (items_at old list c)) c
       by [] is many d = absurd (cc)
       by (x ∷ []) is many d = absurd (cc)
-      by (x ∷ (y ∷ ys)) is many_too d = expanded-fault last names later files answer macros c (items_at old list c) (unclosed_at x)
-          (subst (Expands (provenance_of files) macros (map (begun names) (items_at old list c))) (ap (λ r. after_these (map (seen_hidden later now) out) (closed (map (seen_hidden later now) r))) is) d)
+      by (x ∷ (y ∷ ys)) is many_too d = expanded-fault last names later files answer (macros c) c (items_at old list c) (unclosed_at x)
+          (subst (Expands (provenance_of files) (macros c) (map (begun names) (items_at old list c))) (ap (λ r. after_these (map (seen_hidden later now) out) (closed (map (seen_hidden later now) r))) is) d)
           (faults ∙ (λ i. none i ++ (more-faults true true here many ∙ ap (λ r. map unclosed_at (take 1 r)) is) i))
 
-  pub done-expanded : old.has live.0 c ≡ true → IsExpanded last later files answer macros (map (seen names files) (items_at old list c)) c
-  done-expanded here = by (old.has live.0 c) here is.is
+  pub done-expanded : old.has live.0 c ≡ true → IsExpanded last later files answer (macros c) (map (seen names files) (items_at old list c)) c
+  done-expanded here = by (old.has live.0 c) here (is.is c listed)
     where
-      by : (b : Bool) → b ≡ true → IsDone (provenance_of files) macros (seen_at (stores old names hides) work c) (map (seen_hidden later now) out) (seen_at (stores new later now) s.rest c) (failures_at new s.held.items c) b
-          → IsExpanded last later files answer macros (map (seen names files) (items_at old list c)) c
+      by : (b : Bool) → b ≡ true → IsDone (provenance_of files) (macros c) (seen_at (stores old names hides) work c) (map (seen_hidden later now) out) (seen_at (stores new later now) s.rest c) (failures_at new s.held.items c) b
+          → IsExpanded last later files answer (macros c) (map (seen names files) (items_at old list c)) c
       by b is (running.unasked none left) = absurd (true≢false (sym is))
       by b is (running.settled none d) = settled-expanded (is_several rest) refl here none
-          (subst (λ l. Expands (provenance_of files) macros l (after_these (map (seen_hidden later now) out) (closed (map (seen_hidden later now) rest)))) source (settles-closed (provenance_of files) macros d))
+          (subst (λ l. Expands (provenance_of files) (macros c) l (after_these (map (seen_hidden later now) out) (closed (map (seen_hidden later now) rest)))) source (settles-closed (provenance_of files) (macros c) d))
       by b is (running.refused failure one left d) =
           let nothing : rest ≡ [] = none-found (seen_hidden later now) rest left in
-          expanded-fault last names later files answer macros c (items_at old list c) failure
-          (subst (λ l. Expands (provenance_of files) macros l (Err failure)) source (held-closed (provenance_of files) macros d))
+          expanded-fault last names later files answer (macros c) c (items_at old list c) failure
+          (subst (λ l. Expands (provenance_of files) (macros c) l (Err failure)) source (held-closed (provenance_of files) (macros c) d))
           (faults ∙ (λ i. one i ++ more-faults true false here (ap is_several nothing) i))
 
   pub done-empty : old.has live.0 c ≡ false → IsEmpty last answer c
   done-empty other = record {
-    list = items ∙ (λ i. map (λ (h : Hidden). h.token) (is.none other i) ++ more-items false (is_several rest) other refl i);
-    faults = no-faults (faults ∙ (λ i. by (old.has live.0 c) other is.is i ++ more-faults false (is_several rest) other refl i));
+    list = items ∙ (λ i. map (λ (h : Hidden). h.token) (is.none c listed other i) ++ more-items false (is_several rest) other refl i);
+    faults = no-faults (faults ∙ (λ i. by (old.has live.0 c) other (is.is c listed) i ++ more-faults false (is_several rest) other refl i));
   }
     where
-      by : (b : Bool) → b ≡ false → IsDone (provenance_of files) macros (seen_at (stores old names hides) work c) (map (seen_hidden later now) out) (seen_at (stores new later now) s.rest c) (failures_at new s.held.items c) b
+      by : (b : Bool) → b ≡ false → IsDone (provenance_of files) (macros c) (seen_at (stores old names hides) work c) (map (seen_hidden later now) out) (seen_at (stores new later now) s.rest c) (failures_at new s.held.items c) b
           → failures_at new s.held.items c ≡ []
       by b is (running.unasked none left) = none
       by b is (running.settled none d) = none

@@ -69,8 +69,11 @@ pub mod Phases
 pub mod FootprintLemmas
 pub mod FootprintPlaces
 pub mod PhaseLists
+pub mod PhaseItems
+pub mod PhaseSegments
 pub mod PhaseStarts
 pub mod PhaseMoves
+pub mod PhaseWaits
 pub mod PhaseStops
 pub mod SpanCalls
 pub mod BetweenTurns
@@ -79,6 +82,7 @@ pub mod PhaseAlike
 pub mod FirstCallLemmas
 pub mod NameRuns
 pub mod PlainSettles
+pub mod PassesLaws
 pub mod Placed
 pub mod NameUses
 pub mod RunFootprints

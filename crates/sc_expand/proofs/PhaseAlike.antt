@@ -22,6 +22,7 @@ use Rattle.sc_expand.proofs.PhaseCalls.{Defined, alone-moves, bare-moves, below-
 use Rattle.sc_expand.proofs.PhaseMoves.{moved-fits, moved-pending, moved-place, moved-suffix, state-bottom}
 use Rattle.sc_expand.proofs.Phases.{IsReady, Phase, Spans, bound_of, last_at, state_now}
 use Rattle.sc_expand.proofs.PhaseSpans.{IsInside, inside-span}
+use Rattle.sc_expand.proofs.PhaseWaits.{before-later, begins-later, low-later, waits-later}
 use Rattle.sc_expand.proofs.PlainNames.{covers-then}
 use Rattle.sc_expand.proofs.PlainTurns.{under}
 use Rattle.sc_expand.proofs.Rests.{first-is, next-token}
@@ -280,12 +281,17 @@ module _ (files : List (List ℕ)) (macros : List ℕ → Macros) (names : List 
       pub phase-turned : Phase files macros old new was after
       phase-turned = record {
         at = phase.at;
+        next = phase.next;
         n = phase.n;
         fits = moved-fits files macros grows r began phase ready new after other same turned;
         most = phase.most;
         outs = phase.outs;
+        low = low-later files macros grows r began phase ready new after other same turned;
         faults = phase.faults;
         came = phase.came;
+        begins = begins-later files macros grows r began phase ready new after other same turned;
+        before = before-later files macros grows r began phase ready new after other same turned;
+        waits = waits-later files macros grows r began phase ready new after other same turned;
         has = phase.has;
         place = moved-place files macros grows r began phase ready new after other same turned;
         suffix = moved-suffix files macros grows r began phase ready new after other same turned;

@@ -1,7 +1,7 @@
 -- A phase stays one through a turn: where the configurations stand, and which of its own items each
 -- has left.
-use Rattle.std.proofs.Common.{◌≡◌, ◌⊎◌, inl, inr, ℕ, suc, ◌+◌, ◌<◌, ◌≤◌, nat_lt, Bool, true, false, true≢false, List, [], ◌∷◌, ◌++◌, drop, length, map, Some, None, slice_get, refl, sym, ap, subst, ◌∙◌, arith, if◌then◌else◌}
-use Rattle.std.proofs.lemmas.List.{drop-drop}
+use Rattle.std.proofs.Common.{◌≡◌, ◌⊎◌, inl, inr, ℕ, suc, ◌+◌, ◌<◌, ◌≤◌, nat_lt, Bool, true, false, true≢false, List, [], ◌∷◌, ◌++◌, drop, length, map, Some, None, slice_get, take, refl, sym, ap, subst, ◌∙◌, arith, if◌then◌else◌}
+use Rattle.std.proofs.lemmas.List.{drop-drop, take-append-le}
 use Rattle.std.proofs.lemmas.List.Elements.{All-pop}
 use Rattle.c11_macros.specs.Hidden as model
 use Rattle.c11_macros.specs.Macros.{Macros}
@@ -13,10 +13,13 @@ use Rattle.sc_expand.proofs.Lower.{lower-all, lower-is, lower-min}
 use Rattle.sc_expand.proofs.Behind.{below, below-not, last-below, last-fewer, last-suffix, more-same}
 use Rattle.sc_expand.proofs.MachineCalls.{calls_at-append}
 use Rattle.sc_expand.proofs.MachineLemmas.{IsBelow, IsOnTop, alone, called_in, goes, no-move, progress-step, stands-cases, stops}
-use Rattle.sc_expand.proofs.Phases.{IsReady, Phase, last_at, state_now}
+use Rattle.sc_expand.proofs.Phases.{IsReady, Phase, last_at, state_now, tokens_from}
+use Rattle.sc_expand.proofs.PhaseSegments.{held-take}
 use Rattle.sc_expand.proofs.Placed.{Placed, placed-move}
 use Rattle.sc_expand.proofs.Rests.{next-argument, next-call, next-token}
 use Rattle.sc_expand.proofs.RunLemmas.{IsRunning, running-stands, turned-at}
+use Rattle.sc_expand.proofs.SeenLemmas.{seen_at-Grows}
+use Rattle.sc_expand.proofs.Turning.{put_by-held}
 use Rattle.sc_expand.specs.declared.call.Call.{Call}
 use Rattle.sc_expand.specs.declared.expansion.Expansion.{Expansion}
 use Rattle.sc_expand.specs.declared.frame.Enclosing.{Enclosing}
@@ -26,8 +29,10 @@ use Rattle.sc_expand.specs.Having.{behind_at}
 use Rattle.sc_expand.specs.Open as open_end
 use Rattle.sc_expand.specs.Machine.{IsAbsent, IsHeldExpansion, Stands, at, no_view, state_in}
 use Rattle.sc_expand.specs.Plain.{Moves, State, Waiting, expanding, scanning, waiting}
-use Rattle.sc_expand.specs.Running.{HasEnded, IsAsLong, IsTurned, Rest, all, bottom, bottom_by, but_first, next_of, put, took}
-use Rattle.sc_expand.specs.Seen.{Grows, Stores, View, calls_at, provenance_of, seen_at, state_by, state_of, view_at, waiting_at}
+use Rattle.sc_expand.specs.Running.{HasEnded, IsAsLong, IsTurned, Pushes, Rest, all, bottom, bottom_by, but_first, next_of, put, put_out, took}
+use Rattle.sc_expand.specs.Running as running
+use Rattle.sc_expand.specs.Seen.{AreHeld, Grows, Stores, View, calls_at, provenance_of, seen_at, state_by, state_of, view_at, waiting_at}
+use Rattle.sc_expand.specs.Unchanged as unchanged
 use Rattle.sc_guarded.specs.Items.{items_at}
 use Rattle.sc_model.proofs.SetLemmas.{IsConfig-Keeps}
 use Rattle.sc_model.specs.Sets.{IsConfig, Sets}
@@ -108,7 +113,7 @@ ends-with {A} (x ∷ xs) = by (ends-with xs)
     by (inl none) = inr ([], x, ap (λ ys. x ∷ ys) none)
     by (inr some) = inr (x ∷ some.0, some.1, ap (λ ys. x ∷ ys) some.2)
 
-ended-state : (st : Stores) (c : List ℕ) (e : Expansion) → HasEnded e → state_now st e c ≡ scanning (seen_at st e.top.out c) []
+pub ended-state : (st : Stores) (c : List ℕ) (e : Expansion) → HasEnded e → state_now st e c ≡ scanning (seen_at st e.top.out c) []
 ended-state st c e ended =
     let calls : calls_at st e.top.calls.items c ≡ [] = ap (λ l. calls_at st l c) ended.calls in
     let work : seen_at st e.top.work c ≡ [] = ap (λ l. seen_at st l c) ended.work in
@@ -261,16 +266,16 @@ module _ (files : List (List ℕ)) (macros : List ℕ → Macros)
         by (but_first item one none first le) = let far = first-far item one none first in omega (arith, le, far)
 
     -- what a configuration does that is still live: a step, or nothing
-    abbrev Step : List ℕ → Type 0
+    abbrev pub Step : List ℕ → Type 0
     Step c = (Moves (provenance_of files) (macros c) (state_now now e c) (state_now new after c) × IsPending (state_now now e c) (last_at now e phase.n c) × (open_end.Waits (macros c) (state_now now e c) → ⊥))
         ⊎ ((state_now now e c ≡ state_now new after c) × (last_at now e phase.n c ≡ last_at new after phase.n c))
 
-    record HasMoved (c : List ℕ) : Type 0 where
-      live : now.sets.has e.refusals.live.0 c ≡ true
-      own : last_at new after phase.n c ≡ lower_of (length (steps.bottom (state_now new after c))) (last_at now e phase.n c)
-      step : Step c
+    pub record HasMoved (c : List ℕ) : Type 0 where
+      pub live : now.sets.has e.refusals.live.0 c ≡ true
+      pub own : last_at new after phase.n c ≡ lower_of (length (steps.bottom (state_now new after c))) (last_at now e phase.n c)
+      pub step : Step c
 
-    has-moved : (c : List ℕ) → IsConfig old.sets.arities c → new.sets.has after.refusals.live.0 c ≡ true → HasMoved c
+    pub has-moved : (c : List ℕ) → IsConfig old.sets.arities c → new.sets.has after.refusals.live.0 c ≡ true → HasMoved c
     has-moved c listed live =
         let stands = running-stands grows r c listed in
         let s = progress-step (provenance_of files) (macros c) now new c e.below.items after.below.items (turned-at grows r began new after other same turned c listed) live stands in
@@ -299,21 +304,41 @@ module _ (files : List (List ℕ)) (macros : List ℕ → Macros)
         by (inl m) = m.1
         by (inr s) = subst (λ k. IsPending (state_now now e c) k) (sym s.1) (subst (λ s. IsPending s (last_at new after phase.n c)) (sym s.0) pending)
 
+    -- what was put out before the phase
+    pub first-out : take phase.outs (put_out after) ≡ take phase.outs (put_out e)
+    first-out = by turned.pushes
+      where
+        by : {b : Bool} → Pushes new.sets e after b → take phase.outs (put_out after) ≡ take phase.outs (put_out e)
+        by (running.nothing is) = ap (take phase.outs) is
+        by (running.first item cond one none at (unchanged.pushed some is)) = ap (take phase.outs) is ∙ take-append-le phase.outs (put_out e) ((cond, item.1) ∷ []) phase.low
+        by (running.first item cond one none at (unchanged.absent never is)) = ap (take phase.outs) is
+
+    pub held-first : AreHeld now (length files) (take phase.outs (put_out e))
+    held-first = held-take phase.outs (put_out e) (put_by-held e.below.items e.top r.held.below r.held.top)
+
+    pub start-later : (c : List ℕ) → IsConfig old.sets.arities c → seen_at new (take phase.outs (put_out after)) c ≡ seen_at now (take phase.outs (put_out e)) c
+    start-later c listed = ap (λ l. seen_at new l c) first-out ∙ seen_at-Grows turned.grows c (IsConfig-Keeps grows.sets listed) (take phase.outs (put_out e)) held-first
+
     -- where it stands in the name's expansion
     pub moved-place : (c : List ℕ) → IsConfig old.sets.arities c → new.sets.has after.refusals.live.0 c ≡ true
-        → Placed (provenance_of files) (macros c) (seen_at old was.top.work c) (phase.came c) (length (seen_at old (drop (phase.at + 1) was.top.work) c)) (state_now new after c) (last_at new after phase.n c)
-    moved-place c listed live = let m = has-moved c listed live in by m.step m.own (phase.place c listed m.live)
+        → Placed (provenance_of files) (macros c) (seen_at old was.top.work c) (phase.came c) (length (tokens_from old was phase.next c)) (seen_at new (take phase.outs (put_out after)) c) (state_now new after c) (last_at new after phase.n c)
+    moved-place c listed live =
+        let m = has-moved c listed live in
+        subst (λ l. Placed (provenance_of files) (macros c) list (phase.came c) behind l (state_now new after c) (last_at new after phase.n c)) (sym (start-later c listed)) (by m.step m.own (phase.place c listed m.live))
       where
         list : List (model.Hidden Place)
         list = seen_at old was.top.work c
 
         behind : ℕ
-        behind = length (seen_at old (drop (phase.at + 1) was.top.work) c)
+        behind = length (tokens_from old was phase.next c)
+
+        start : List (model.Hidden Place)
+        start = seen_at now (take phase.outs (put_out e)) c
 
         by : Step c → last_at new after phase.n c ≡ lower_of (length (steps.bottom (state_now new after c))) (last_at now e phase.n c)
-            → Placed (provenance_of files) (macros c) list (phase.came c) behind (state_now now e c) (last_at now e phase.n c) → Placed (provenance_of files) (macros c) list (phase.came c) behind (state_now new after c) (last_at new after phase.n c)
-        by (inl m) own place = placed-move (provenance_of files) (macros c) list (phase.came c) behind (last_at now e phase.n c) (last_at new after phase.n c) (state_now now e c) (state_now new after c) place m.0 m.2 m.1 own
-        by (inr s) own place = subst (λ (z : State Place × ℕ). Placed (provenance_of files) (macros c) list (phase.came c) behind z.0 z.1) (λ i. (s.0 i, s.1 i)) place
+            → Placed (provenance_of files) (macros c) list (phase.came c) behind start (state_now now e c) (last_at now e phase.n c) → Placed (provenance_of files) (macros c) list (phase.came c) behind start (state_now new after c) (last_at new after phase.n c)
+        by (inl m) own place = placed-move (provenance_of files) (macros c) list (phase.came c) behind start (last_at now e phase.n c) (last_at new after phase.n c) (state_now now e c) (state_now new after c) place m.0 m.2 m.1 own
+        by (inr s) own place = subst (λ (z : State Place × ℕ). Placed (provenance_of files) (macros c) list (phase.came c) behind start z.0 z.1) (λ i. (s.0 i, s.1 i)) place
 
     -- its own items are still the last that it had
     pub moved-suffix : (c : List ℕ) → IsConfig old.sets.arities c → new.sets.has after.refusals.live.0 c ≡ true → (m : ℕ) → m ≤ phase.n

@@ -1,11 +1,11 @@
 -- What a configuration still uses of the item that it expands.
-use Rattle.std.proofs.Common.{◌≡◌, ◌⊎◌, inl, inr, ℕ, suc, ◌+◌, ◌-◌, ◌≤◌, true, List, [], ◌∷◌, ◌++◌, drop, length, length-append, take, sym, ap, subst, ◌∙◌, arith}
+use Rattle.std.proofs.Common.{◌≡◌, ◌⊎◌, inl, inr, ℕ, suc, ◌+◌, ◌-◌, ◌≤◌, true, true≢false, List, ◌∷◌, ◌++◌, drop, length, length-append, take, sym, ap, subst, ◌∙◌, arith}
 use Rattle.std.proofs.lemmas.List.{drop-drop, length-drop, length-map}
 use Rattle.c11_macros.proofs.OneRun.{one-run}
 use Rattle.c11_macros.specs.Expansion.{IsWithin, case_of, stays}
 use Rattle.c11_macros.specs.Hidden as model
 use Rattle.c11_macros.specs.Macros.{Macros}
-use Rattle.c11_macros.specs.Runs.{End, Passes, Runs, Uses}
+use Rattle.c11_macros.specs.Runs.{End, Uses}
 use Rattle.sc_base.specs.declared.id.Cond.{Cond}
 use Rattle.sc_base.specs.declared.place.Place.{Place}
 use Rattle.sc_expand.proofs.Behind.{below, below-items}
@@ -13,10 +13,12 @@ use Rattle.sc_expand.proofs.Lower.{lower-min}
 use Rattle.sc_expand.proofs.NameRuns.{IsInFront, Named, StateRuns}
 use Rattle.sc_expand.proofs.NameUses.{SomeRun, state-runs}
 use Rattle.sc_expand.proofs.PhaseCalls.{below-fewer, items-parted}
-use Rattle.sc_expand.proofs.PhaseLists.{same-end, seen-drop, seen-name, slice-drop, take-least}
-use Rattle.sc_expand.proofs.Phases.{Comes, HasItem, Phase, Spans, bound_of, last_at, state_now}
+use Rattle.sc_expand.proofs.PhaseItems.{comes-by, item-is}
+use Rattle.sc_expand.proofs.PhaseLists.{same-end, take-least}
+use Rattle.sc_expand.proofs.Phases.{Begins, Comes, HasItem, Phase, Spans, at_item, at_start, bound_of, last_at, state_now, tokens_from}
 use Rattle.sc_expand.proofs.Placed as placed
-use Rattle.sc_expand.proofs.Placed.{passes-end, placed-within}
+use Rattle.sc_expand.proofs.PassesLaws.{passes-end, run-same}
+use Rattle.sc_expand.proofs.Placed.{placed-within}
 use Rattle.sc_expand.proofs.PlainNames.{Covers, covers-same, covers-then}
 use Rattle.sc_expand.proofs.PlainSettles.{InName}
 use Rattle.sc_expand.specs.declared.expansion.Expansion.{Expansion}
@@ -24,7 +26,7 @@ use Rattle.sc_expand.specs.FootprintSteps as steps
 use Rattle.sc_expand.specs.FootprintSteps.{IsPending, lower_of}
 use Rattle.sc_expand.specs.Having.{behind_at}
 use Rattle.sc_expand.specs.Plain.{scanning}
-use Rattle.sc_expand.specs.Running.{bottom}
+use Rattle.sc_expand.specs.Running.{bottom, put_out}
 use Rattle.sc_expand.specs.Seen.{Stores, provenance_of, seen_at}
 use Rattle.sc_guarded.specs.Items.{items_at}
 use Rattle.sc_model.specs.Sets.{IsConfig}
@@ -56,8 +58,16 @@ module _ {files : List (List ℕ)} {macros : List ℕ → Macros} (names : List 
   abbrev rest : List (model.Hidden Place)
   rest = seen_at old (drop (phase.at + 1) was.top.work) c
 
-  pub here : placed.IsWithin (provenance_of files) (macros c) list (phase.came c) (length rest) (state_now now e c) (last_at now e phase.n c)
-  here = placed-within (provenance_of files) (macros c) list (phase.came c) (length rest) (last_at now e phase.n c) (state_now now e c) (phase.place c p live) pending
+  pub here : placed.IsWithin (provenance_of files) (macros c) list (phase.came c) (length (tokens_from old was phase.next c)) (seen_at now (take phase.outs (put_out e)) c) (state_now now e c) (last_at now e phase.n c)
+  here = placed-within (provenance_of files) (macros c) list (phase.came c) (length (tokens_from old was phase.next c)) (seen_at now (take phase.outs (put_out e)) c) (last_at now e phase.n c) (state_now now e c) (phase.place c p live) pending
+
+  -- so many tokens stand behind the item
+  long : length here.name.behind ≡ length rest
+  long = by phase.begins
+    where
+      by : Begins files macros old now was e phase.came phase.at phase.next → length here.name.behind ≡ length rest
+      by (at_item one missed) = here.long ∙ ap (λ k. length (tokens_from old was k c)) one
+      by (at_start is_start none_came empty) = absurd (true≢false (sym here.came_is ∙ none_came c))
 
   abbrev x : InName (provenance_of files) (macros c) list (state_now now e c)
   x = here.name
@@ -70,13 +80,7 @@ module _ {files : List (List ℕ)} {macros : List ℕ → Macros} (names : List 
 
   -- the name and what stands behind it are the list's last tokens
   stands-at : (t : model.Hidden Place) (g : ℕ) → t ∷ rest ≡ drop g list → x.name ∷ x.behind ≡ t ∷ rest
-  stands-at t g is = let one = passes-end (provenance_of files) (macros c) x.passes in same-end one.0 g list (x.name ∷ x.behind) (t ∷ rest) one.1 is (ap suc here.long)
-
-  runs-at : (t : model.Hidden Place) → x.name ∷ x.behind ≡ t ∷ rest → Runs (provenance_of files) (macros c) (t ∷ []) rest named.later run.end named.uses
-  runs-at t is =
-      let first : x.name ≡ t = cc in
-      let same : x.behind ≡ rest = cc in
-      subst (λ (z : model.Hidden Place × List (model.Hidden Place)). Runs (provenance_of files) (macros c) (z.0 ∷ []) z.1 named.later run.end named.uses) (λ i. (first i, same i)) named.runs
+  stands-at t g is = let one = passes-end (provenance_of files) (macros c) x.passes in same-end one.0 g list (x.name ∷ x.behind) (t ∷ rest) one.1 is (ap suc long)
 
   -- ---- the item
 
@@ -87,22 +91,10 @@ module _ {files : List (List ℕ)} {macros : List ℕ → Macros} (names : List 
   t = seen_hidden old.names old.hides item.item.1
 
   at-item : x.name ∷ x.behind ≡ t ∷ rest
-  at-item =
-      let there = seen-drop old phase.at was.top.work c in
-      stands-at t there.0 (sym (seen-name old (drop phase.at was.top.work) items item.item c item.first item.has) ∙ there.1)
+  at-item = item-is files macros old was phase.at c item x.passes long
 
   pub comes : Comes files macros old was phase.at c
-  comes = record {
-    item = item.item;
-    is = slice-drop phase.at was.top.work item.item items item.first;
-    has = item.has;
-    before = x.out;
-    passes = subst (Passes (provenance_of files) (macros c) list x.out) at-item x.passes;
-    done = named.later;
-    end = run.end;
-    uses = named.uses;
-    runs = runs-at t at-item;
-  }
+  comes = comes-by files macros old was phase.at c item x.passes long named.runs
 
   -- it has the name still, or has replaced it
   pub comes-named : ((out : List (model.Hidden Place)) × (state_now now e c ≡ scanning out (seen_hidden old.names old.hides comes.item.1 ∷ rest))) ⊎ (case_of (macros c) (seen_hidden old.names old.hides comes.item.1) rest ≡ stays → ⊥)
@@ -141,10 +133,10 @@ module _ {files : List (List ℕ)} {macros : List ℕ → Macros} (names : List 
     pub inside-span : IsInside files macros now e phase.n bound span.one.uses.looked_up c
     inside-span =
         let end = passes-end (provenance_of files) (macros c) span.one.passes in
-        let uses = (one-run (provenance_of files) (macros c) span.one.runs named.later run.end named.uses (runs-at (seen_hidden old.names old.hides span.one.item.1) (stands-at _ end.0 end.1))).uses in
+        let uses = (one-run (provenance_of files) (macros c) span.one.runs named.later run.end named.uses (run-same (provenance_of files) (macros c) (stands-at (seen_hidden old.names old.hides span.one.item.1) end.0 end.1) named.runs)).uses in
         let took : length span.one.uses.taken ≡ length x.reaches.taken + length run.uses.taken = ap (λ (u : Uses Place). length u.taken) uses ∙ (ap length named.taken_is ∙ length-append x.reaches.taken run.uses.taken) in
         let stood : length x.behind ≡ length x.reaches.taken + length x.left = ap length x.reaches.stands ∙ length-append x.reaches.taken x.left in
-        let count : length x.behind ≡ length (items_at old.sets items c) = here.long ∙ length-map (items_at old.sets items c) (seen_hidden old.names old.hides) in
+        let count : length x.behind ≡ length (items_at old.sets items c) = long ∙ length-map (items_at old.sets items c) (seen_hidden old.names old.hides) in
         let parts = items-parted old.sets c (length items - bound) items in
         let taken : length span.one.uses.taken ≤ length (items_at old.sets (take (length items - bound) items) c) = subst (λ l. length span.one.uses.taken ≤ length (items_at old.sets l c)) (take-least size items) span.one_within in
         record {

@@ -1,7 +1,7 @@
 -- A phase of an expansion begins: with the whole list, and at each name of it.
 use Rattle.std.proofs.Common.{◌≡◌, ◌⊎◌, inl, inr, ℕ, zero, suc, ◌+◌, ◌-◌, ◌<◌, ◌≤◌, ◌&&◌, Bool, true, false, true≢false, List, [], ◌∷◌, All, None, Some, drop, length, slice_get, take, refl, sym, ap, subst, ◌∙◌, arith, if◌then◌else◌}
 use Rattle.std.proofs.lemmas.Bool.{and_parts, cases_lt}
-use Rattle.std.proofs.lemmas.List.{drop-drop, drop_all, length-drop, take-take}
+use Rattle.std.proofs.lemmas.List.{drop-drop, drop_all, length-drop, take-take, take_all}
 use Rattle.std.proofs.lemmas.List.Elements.{All-cons, All-nil, All-take}
 use Rattle.c11_macros.specs.Hidden as model
 use Rattle.c11_macros.specs.Macros.{Macros}
@@ -10,23 +10,31 @@ use Rattle.sc_base.specs.declared.fault.Fault.{Fault}
 use Rattle.sc_base.specs.declared.id.Cond.{Cond}
 use Rattle.sc_base.specs.declared.place.Place.{Place}
 use Rattle.sc_expand.proofs.Lower.{lower-bounds, lower-least, lower-min}
-use Rattle.sc_expand.proofs.Behind.{Fall, Fall-weaker, behind-falls, below, below-all, below-behind, below-not}
+use Rattle.sc_expand.proofs.Behind.{Fall, behind-falls, below, below-all, below-behind, below-not}
 use Rattle.sc_expand.proofs.MachineLemmas.{progress-step}
 use Rattle.sc_expand.proofs.PhaseLists.{alike-behind, below-from, below-same, first-had, length-seen, same-end, seen-drop, seen-name, take-least}
-use Rattle.sc_expand.proofs.Phases.{HasItem, IsReady, Phase, Spans, bound_of, last_at, state_now}
-use Rattle.sc_expand.proofs.Placed.{Placed, away, passes-end, placed-between, placed-next, placed-within}
+use Rattle.sc_expand.proofs.PassesLaws.{passes-end}
+use Rattle.sc_expand.proofs.PhaseItems.{come-many, from-later}
+use Rattle.sc_expand.proofs.Phases.{Begins, Comes, HasItem, IsReady, Phase, Segments, Spans, at_item, at_start, bound_of, last_at, state_now, tokens_from}
+use Rattle.sc_expand.proofs.PhaseSegments.{bottom-is, held-drop, held-take, out-is, own-few, phase-segments, puts-as, segments-Grows, stands, state-is}
+use Rattle.sc_expand.proofs.Placed.{IsNext, Placed, away, placed-next, placed-within}
+use Rattle.sc_expand.proofs.SeenLemmas.{seen_at-Grows}
+use Rattle.sc_expand.proofs.Turning.{put_by-held}
 use Rattle.sc_expand.proofs.RunLemmas.{IsRunning, rests-at, running-stands, start-state, told-apart}
 use Rattle.sc_expand.specs.Alike.{IsAlikeCall, IsAlikeEnclosing, IsAlikeExpansion, IsAlikeFrame, Others, others_at}
 use Rattle.sc_expand.specs.declared.call.Call.{Call}
 use Rattle.sc_expand.specs.declared.expansion.Expansion.{Expansion}
 use Rattle.sc_expand.specs.declared.frame.Enclosing.{Enclosing}
 use Rattle.sc_expand.specs.declared.frame.Frame.{Frame}
+use Rattle.sc_expand.specs.declared.refusals.Refusals.{Refusals}
 use Rattle.sc_expand.specs.FootprintSteps.{IsPending, lower_of}
 use Rattle.sc_expand.specs.Having.{behind_at}
-use Rattle.sc_expand.specs.Machine.{IsHeldExpansion, state_in}
+use Rattle.sc_expand.specs.Machine.{IsHeldExpansion}
 use Rattle.sc_expand.specs.Plain.{State, scanning}
-use Rattle.sc_expand.specs.Running.{IsRested, IsUntouched, bottom, bottom_by}
-use Rattle.sc_expand.specs.Seen.{Grows, Stores, calls_at, provenance_of, seen_at, state_by, view_at}
+use Rattle.sc_expand.specs.Running.{IsRested, IsUntouched, bottom, bottom_by, put_by, put_out}
+use Rattle.sc_expand.specs.Seen.{AreHeld, Grows, Stores, provenance_of, seen_at}
+use Rattle.sc_expand.specs.Spans.{passed}
+use Rattle.sc_guarded.specs.Items.{items_at}
 use Rattle.sc_hoist.specs.Alike.{AreAlike, AreAlikeFaults, IsAlike}
 use Rattle.sc_model.proofs.SetLemmas.{IsConfig-Keeps}
 use Rattle.sc_model.specs.Sets.{IsConfig, Sets}
@@ -74,17 +82,22 @@ module _ (files : List (List ℕ)) (macros : List ℕ → Macros) where
   pub phase-start : (old : Stores) (was : Expansion) → IsHeldExpansion old (length files) was → IsUntouched old.sets was → Phase files macros old old was was
   phase-start old was held fresh = record {
     at = 0;
+    next = 0;
     n = length was.top.work;
     fits = let long = ap (λ (f : Frame). length f.work) bot in omega (arith, long);
     most = omega arith;
     outs = 0;
+    low = omega arith;
     faults = 0;
     came = λ c. false;
+    begins = at_start refl (λ c. refl) (ap (λ bs. put_by bs was.top) fresh.below ∙ fresh.out);
+    before = record { segments = []; many = refl; is = refl; each = λ index part found. absurd (cc) };
+    waits = λ c p waits. absurd (true≢false (sym waits ∙ fresh.waiting.none c p));
     has = λ c p k. absurd (true≢false (sym k));
     place = λ c p live. place c;
     suffix = λ c p live m le. (0, ap (λ (f : Frame). below m (behind_at old.sets f.work c)) bot);
     alike = λ size c d p q span live live_d pending pending_d.
-        let w = placed-within (provenance_of files) (macros c) (seen_at old was.top.work c) false (length (seen_at old (drop 1 was.top.work) c)) (last_at old was (length was.top.work) c) (state_now old was c) (place c) pending in
+        let w = placed-within (provenance_of files) (macros c) (seen_at old was.top.work c) false (length (seen_at old was.top.work c)) [] (last_at old was (length was.top.work) c) (state_now old was c) (place c) pending in
         absurd (true≢false (sym w.came_is));
   }
     where
@@ -94,10 +107,10 @@ module _ (files : List (List ℕ)) (macros : List ℕ → Macros) where
       all : (c : List ℕ) → below (length was.top.work) (behind_at old.sets (bottom was).work c) ≡ behind_at old.sets was.top.work c
       all c = ap (λ (f : Frame). below (length was.top.work) (behind_at old.sets f.work c)) bot ∙ below-all (length was.top.work) (behind_at old.sets was.top.work c) (behind-falls old.sets c was.top.work)
 
-      place : (c : List ℕ) → Placed (provenance_of files) (macros c) (seen_at old was.top.work c) false (length (seen_at old (drop 1 was.top.work) c)) (state_now old was c) (last_at old was (length was.top.work) c)
+      place : (c : List ℕ) → Placed (provenance_of files) (macros c) (seen_at old was.top.work c) false (length (seen_at old was.top.work c)) [] (state_now old was c) (last_at old was (length was.top.work) c)
       place c =
-          subst (λ s. Placed (provenance_of files) (macros c) (seen_at old was.top.work c) false (length (seen_at old (drop 1 was.top.work) c)) s (last_at old was (length was.top.work) c)) (sym (start-state files macros old was held fresh c))
-          (away refl begins (ap length (all c) ∙ sym (length-seen old was.top.work c)))
+          subst (λ s. Placed (provenance_of files) (macros c) (seen_at old was.top.work c) false (length (seen_at old was.top.work c)) [] s (last_at old was (length was.top.work) c)) (sym (start-state files macros old was held fresh c))
+          (away refl begins (ap length (all c) ∙ sym (length-seen old was.top.work c)) (record { few = omega arith; most = λ out left p less. less }))
 
 -- ---- what only refused configurations have has gone
 
@@ -106,16 +119,24 @@ module _ {files : List (List ℕ)} {macros : List ℕ → Macros} {old now : Sto
   pub phase-rested : (new : Stores) (after : Expansion) → Phase files macros old now was e → IsRested now new e after → Phase files macros old new was after
   phase-rested new after phase rested = record {
     at = phase.at;
+    next = phase.next;
     n = n;
     fits = omega (arith, lower-min (length (bottom after).work) phase.n);
     most = let most = phase.most in omega (arith, lower-min (length (bottom after).work) phase.n, most);
     outs = phase.outs;
+    low = subst (λ (l : List (Cond × Hidden)). phase.outs ≤ length l) (sym rested.out) phase.low;
     faults = phase.faults;
     came = phase.came;
+    begins = begins-now phase.begins;
+    before = subst (λ l. Segments files macros old was new phase.at (take phase.outs l)) (sym rested.out) (segments-Grows files macros old now was grows rested.grows (held-take phase.outs (put_out e) held_out) phase.before);
+    waits = λ c p waits.
+        let w = phase.waits c p (sym (rested.grows.sets.at e.refusals.waiting.0 c r.held.refusals.waiting (IsConfig-Keeps grows.sets p)) ∙ (ap (λ (k : Refusals). new.sets.has k.waiting.0 c) (sym rested.refusals) ∙ waits)) in
+        record { puts = puts-as files macros old now was new phase.at (drop phase.outs (put_out e)) (drop phase.outs (put_out after)) c (own-same c p) w.puts; last = w.last };
     has = phase.has;
     place = λ c p live.
         let s = stays c p live in
-        subst (λ (z : State Place × ℕ). Placed (provenance_of files) (macros c) (seen_at old was.top.work c) (phase.came c) (length (seen_at old (drop (phase.at + 1) was.top.work) c)) z.0 z.1) (λ i. (s.1 i, sym (last c p live) i)) (phase.place c p s.0);
+        subst (λ (z : List (model.Hidden Place) × State Place × ℕ). Placed (provenance_of files) (macros c) (seen_at old was.top.work c) (phase.came c) (length (tokens_from old was phase.next c)) z.0 z.1 z.2)
+        (λ i. (sym (start-same c p) i, s.1 i, sym (last c p live) i)) (phase.place c p s.0);
     suffix = λ c p live m le. let it = phase.suffix c p (stays c p live).0 m (omega (arith, le, lower-min (length (bottom after).work) phase.n)) in (it.0, ap (below m) (behind c p live) ∙ it.1);
     alike = λ size c d p q span live live_d pending pending_d.
         let s = stays c p live in
@@ -142,6 +163,19 @@ module _ {files : List (List ℕ)} {macros : List ℕ → Macros} {old now : Sto
           let s = progress-step (provenance_of files) (macros c) now new c e.below.items after.below.items (rests-at grows r began new after rested c p) live (running-stands grows r c p) in
           (s.0, s.1.stays refl)
 
+      held_out : AreHeld now (length files) (put_out e)
+      held_out = put_by-held e.below.items e.top r.held.below r.held.top
+
+      start-same : (c : List ℕ) → IsConfig old.sets.arities c → seen_at new (take phase.outs (put_out after)) c ≡ seen_at now (take phase.outs (put_out e)) c
+      start-same c p = ap (λ l. seen_at new (take phase.outs l) c) rested.out ∙ seen_at-Grows rested.grows c (IsConfig-Keeps grows.sets p) (take phase.outs (put_out e)) (held-take phase.outs (put_out e) held_out)
+
+      own-same : (c : List ℕ) → IsConfig old.sets.arities c → seen_at new (drop phase.outs (put_out after)) c ≡ seen_at now (drop phase.outs (put_out e)) c
+      own-same c p = ap (λ l. seen_at new (drop phase.outs l) c) rested.out ∙ seen_at-Grows rested.grows c (IsConfig-Keeps grows.sets p) (drop phase.outs (put_out e)) (held-drop phase.outs (put_out e) held_out)
+
+      begins-now : Begins files macros old now was e phase.came phase.at phase.next → Begins files macros old new was after phase.came phase.at phase.next
+      begins-now (at_item one missed) = at_item one (λ c p live not. missed c p (stays c p live).0 not)
+      begins-now (at_start is_start none_came empty) = at_start is_start none_came (rested.out ∙ empty)
+
       behind : (c : List ℕ) → IsConfig old.sets.arities c → new.sets.has after.refusals.live.0 c ≡ true → behind_at new.sets (bottom after).work c ≡ behind_at now.sets (bottom e).work c
       behind c p live = rested.rest (length files) c r.held (IsConfig-Keeps grows.sets p) (stays c p live).0
 
@@ -160,31 +194,22 @@ never-some x is = cc
 module _ {files : List (List ℕ)} {macros : List ℕ → Macros} {old now : Stores} {was e : Expansion}
     (r : IsRunning files macros old now was e) (phase : Phase files macros old now was e)
     (none : e.below.items ≡ []) (uncalled : e.top.calls.items ≡ []) (item : Cond × Hidden) (rest : List (Cond × Hidden)) (work : e.top.work ≡ item ∷ rest) (near : length e.top.work ≤ phase.n) where
-  bottom-is : (bottom e).work ≡ item ∷ rest
-  bottom-is = ap (λ bs. (bottom_by bs e.top).work) none ∙ work
+  bottom-first : (bottom e).work ≡ item ∷ rest
+  bottom-first = bottom-is r phase none uncalled near ∙ work
 
-  state-is : (c : List ℕ) → state_now now e c ≡ scanning (seen_at now e.top.out c) (seen_at now (item ∷ rest) c)
-  state-is c =
-      let calls : calls_at now e.top.calls.items c ≡ [] = ap (λ l. calls_at now l c) uncalled in
-      ap (λ bs. state_in now bs (view_at now e.top c) c) none ∙ (λ i. state_by (seen_at now e.top.out c) (seen_at now (work i) c) (calls i))
+  state-first : (c : List ℕ) → state_now now e c ≡ scanning (seen_at now e.top.out c) (seen_at now (item ∷ rest) c)
+  state-first c = state-is r phase none uncalled near c ∙ ap (λ l. scanning (seen_at now e.top.out c) (seen_at now l c)) work
 
-  -- all that is left is the list's own
-  all-own : (c : List ℕ) → below phase.n (behind_at now.sets (bottom e).work c) ≡ behind_at now.sets (item ∷ rest) c
-  all-own c =
-      let long = ap length work in
-      ap (λ l. below phase.n (behind_at now.sets l c)) bottom-is
-      ∙ below-all phase.n (behind_at now.sets (item ∷ rest) c) (Fall-weaker (suc (length rest)) phase.n (behind_at now.sets (item ∷ rest) c) (omega (arith, near, long)) (behind-falls now.sets c (item ∷ rest)))
+  -- the configuration comes to what is left, and to nothing between this and the last item
+  stands-first : (c : List ℕ) → IsConfig old.sets.arities c → now.sets.has e.refusals.live.0 c ≡ true
+      → Passes (provenance_of files) (macros c) (seen_at old was.top.work c) (seen_at now e.top.out c) (seen_at now (item ∷ rest) c)
+      × IsNext (provenance_of files) (macros c) (seen_at old was.top.work c) (length (tokens_from old was phase.next c)) (seen_at now (item ∷ rest) c)
+  stands-first c p live =
+      subst (λ l. Passes (provenance_of files) (macros c) (seen_at old was.top.work c) (seen_at now e.top.out c) (seen_at now l c)
+      × IsNext (provenance_of files) (macros c) (seen_at old was.top.work c) (length (tokens_from old was phase.next c)) (seen_at now l c)) work (stands r phase none uncalled near c p live)
 
-  count-is : (c : List ℕ) → last_at now e phase.n c ≡ length (seen_at now (item ∷ rest) c)
-  count-is c = ap length (all-own c) ∙ sym (length-seen now (item ∷ rest) c)
-
-  -- the configuration comes to what is left
   arrived : (c : List ℕ) → IsConfig old.sets.arities c → now.sets.has e.refusals.live.0 c ≡ true → Passes (provenance_of files) (macros c) (seen_at old was.top.work c) (seen_at now e.top.out c) (seen_at now (item ∷ rest) c)
-  arrived c p live =
-      let K = length (seen_at old (drop (phase.at + 1) was.top.work) c) in
-      let count = count-is c in
-      placed-between (provenance_of files) (macros c) (seen_at old was.top.work c) (phase.came c) K (last_at now e phase.n c) (seen_at now e.top.out c) (seen_at now (item ∷ rest) c)
-      (subst (λ s. Placed (provenance_of files) (macros c) (seen_at old was.top.work c) (phase.came c) K s (last_at now e phase.n c)) (state-is c) (phase.place c p live)) (omega (arith, count))
+  arrived c p live = (stands-first c p live).0
 
   -- the name's index
   abbrev at_now : ℕ
@@ -223,7 +248,7 @@ module _ {files : List (List ℕ)} {macros : List ℕ → Macros} {old now : Sto
       let list = drop at_now was.top.work in
       let number = phase.suffix c p h.1 (suc m) (omega (arith, work_is, near)) in
       let mine : behind_at now.sets (item ∷ rest) c ≡ m ∷ ms = ap (λ (b : Bool). if b then m ∷ ms else ms) h.0 in
-      let all : below (suc m) (behind_at now.sets (bottom e).work c) ≡ m ∷ ms = ap (λ l. below (suc m) (behind_at now.sets l c)) bottom-is ∙ (below-all (suc m) (behind_at now.sets (item ∷ rest) c) (behind-falls now.sets c (item ∷ rest)) ∙ mine) in
+      let all : below (suc m) (behind_at now.sets (bottom e).work c) ≡ m ∷ ms = ap (λ l. below (suc m) (behind_at now.sets l c)) bottom-first ∙ (below-all (suc m) (behind_at now.sets (item ∷ rest) c) (behind-falls now.sets c (item ∷ rest)) ∙ mine) in
       let long : length list ≡ suc m = omega (arith, length-drop at_now was.top.work, far) in
       let falls = behind-falls old.sets c list in
       let from = below-from (length list) number.0 m ms (behind_at old.sets list c) falls (ap (drop number.0) (sym (below-behind old.sets c (suc m) was.top.work far)) ∙ (sym number.1 ∙ all)) in
@@ -237,34 +262,67 @@ module _ {files : List (List ℕ)} {macros : List ℕ → Macros} {old now : Sto
   -- its own items behind the name
   behind-name : (c : List ℕ) → below (length rest) (behind_at now.sets (bottom e).work c) ≡ behind_at now.sets rest c
   behind-name c =
-      ap (λ l. below (length rest) (behind_at now.sets l c)) bottom-is ∙ by (now.sets.has item.0.0 c) ∙ below-all (length rest) (behind_at now.sets rest c) (behind-falls now.sets c rest)
+      ap (λ l. below (length rest) (behind_at now.sets l c)) bottom-first ∙ by (now.sets.has item.0.0 c) ∙ below-all (length rest) (behind_at now.sets rest c) (behind-falls now.sets c rest)
     where
       by : (has : Bool) → below (length rest) (if has then length rest ∷ behind_at now.sets rest c else behind_at now.sets rest c) ≡ below (length rest) (behind_at now.sets rest c)
       by true = below-not (length rest) (length rest) (behind_at now.sets rest c) (omega arith)
       by false = refl
 
+  -- the phase's items end where the name stands or before
+  next-before : phase.next ≤ at_now
+  next-before = let long = ap length work in let most = phase.most in omega (arith, long, near, most)
+
+  -- who does not have the name has no more than the items behind it
+  few-behind : (c : List ℕ) → IsConfig old.sets.arities c → now.sets.has e.refusals.live.0 c ≡ true → now.sets.has item.0.0 c ≡ false → length (seen_at now (item ∷ rest) c) ≤ length (tokens_from old was (at_now + 1) c)
+  few-behind c p live none_first =
+      let long = ap length work in
+      let most = phase.most in
+      let few = own-few r phase none uncalled near c p live (length rest) (omega (arith, long, near)) in
+      let index : length was.top.work - length rest ≡ at_now + 1 = omega (arith, long, near, most) in
+      let same = ap (λ k. length (tokens_from old was k c)) index in
+      let count = ap length (behind-name c ∙ ap (λ (b : Bool). if b then length rest ∷ behind_at now.sets rest c else behind_at now.sets rest c) (sym none_first)) in
+      omega (arith, few, same, count, length-seen now (item ∷ rest) c)
+
+  missed-name : (c : List ℕ) → IsConfig old.sets.arities c → now.sets.has e.refusals.live.0 c ≡ true → came_now c ≡ false → Comes files macros old was at_now c → ⊥
+  missed-name c p live not x =
+      let many = come-many files macros old was at_now c x in
+      let before = from-later old was c phase.next at_now next-before in
+      let far = (stands-first c p live).1.most x.before (seen_hidden old.names old.hides x.item.1 ∷ tokens_from old was (at_now + 1) c) x.passes (omega (arith, many, before)) in
+      omega (arith, far, few-behind c p live (not-first (now.sets.has item.0.0 c) (now.sets.has e.refusals.live.0 c) not live))
+
+  -- all that was put out stood there as the name's expansion begins
+  out-long : length (put_out e) ≤ length e.top.out
+  out-long = let same = ap length (out-is r phase none uncalled near) in omega (arith, same)
+
+  starts : take (length e.top.out) (put_out e) ≡ put_out e
+  starts = take_all (length e.top.out) (put_out e) out-long
+
   place-now : (c : List ℕ) → IsConfig old.sets.arities c → now.sets.has e.refusals.live.0 c ≡ true
-      → Placed (provenance_of files) (macros c) (seen_at old was.top.work c) (came_now c) (length (seen_at old (drop (at_now + 1) was.top.work) c)) (state_now now e c) (last_at now e (length rest) c)
-  place-now c p live = subst (λ s. Placed (provenance_of files) (macros c) list (came_now c) (length behind) s (last_at now e (length rest) c)) (sym (state-is c)) (by (came_now c) refl)
+      → Placed (provenance_of files) (macros c) (seen_at old was.top.work c) (came_now c) (length (tokens_from old was (at_now + 1) c)) (seen_at now (take (length e.top.out) (put_out e)) c) (state_now now e c) (last_at now e (length rest) c)
+  place-now c p live =
+      subst (λ (z : List (model.Hidden Place) × State Place). Placed (provenance_of files) (macros c) list (came_now c) (length behind) z.0 z.1 (last_at now e (length rest) c))
+      (λ i. (seen_at now ((sym (out-is r phase none uncalled near) ∙ sym starts) i) c, sym (state-first c) i)) (by (came_now c) refl)
     where
       list : List (model.Hidden Place)
       list = seen_at old was.top.work c
 
       behind : List (model.Hidden Place)
-      behind = seen_at old (drop (at_now + 1) was.top.work) c
+      behind = tokens_from old was (at_now + 1) c
 
       out : List (model.Hidden Place)
       out = seen_at now e.top.out c
 
-      by : (b : Bool) → came_now c ≡ b → Placed (provenance_of files) (macros c) list (came_now c) (length behind) (scanning out (seen_at now (item ∷ rest) c)) (last_at now e (length rest) c)
+      by : (b : Bool) → came_now c ≡ b → Placed (provenance_of files) (macros c) list (came_now c) (length behind) out (scanning out (seen_at now (item ∷ rest) c)) (last_at now e (length rest) c)
       by true k =
           let it = comes c p k in
           let count = ap length (behind-name c ∙ sym it.behind) ∙ sym (length-seen old (drop (at_now + 1) was.top.work) c) in
-          subst (λ l. Placed (provenance_of files) (macros c) list (came_now c) (length behind) (scanning out l) (last_at now e (length rest) c)) (sym it.seen)
+          subst (λ l. Placed (provenance_of files) (macros c) list (came_now c) (length behind) out (scanning out l) (last_at now e (length rest) c)) (sym it.seen)
           (placed-next (provenance_of files) (macros c) list out behind (seen_hidden old.names old.hides it.had.item.1) (came_now c) (length behind) (last_at now e (length rest) c) k (subst (Passes (provenance_of files) (macros c) list out) it.seen (arrived c p live)) refl count)
       by false not =
           let none_first = not-first (now.sets.has item.0.0 c) (now.sets.has e.refusals.live.0 c) not live in
+          let before = from-later old was c phase.next (at_now + 1) (let le = next-before in omega (arith, le)) in
           away not (arrived c p live) (ap length (behind-name c ∙ ap (λ (b : Bool). if b then length rest ∷ behind_at now.sets rest c else behind_at now.sets rest c) (sym none_first)) ∙ sym (length-seen now (item ∷ rest) c))
+          (record { few = few-behind c p live none_first; most = λ o l q less. (stands-first c p live).1.most o l q (omega (arith, less, before)) })
 
   -- who expand it alike have the same of what it takes
   alike-name : (size : ℕ) (c d : List ℕ) (it : Has c) (jt : Has d) → Spans files macros old was at_now size c d → now.sets.has item.0.0 c ≡ now.sets.has item.0.0 d
@@ -300,24 +358,38 @@ module _ {files : List (List ℕ)} {macros : List ℕ → Macros} {old now : Sto
       count : suc (length rest) - lower_of bound (length rest) ≡ suc (length rest - bound)
       count = let long = it.long in omega (arith, long, lower-min bound (length rest))
 
+  segments-now : Segments files macros old was now at_now (take (length e.top.out) (put_out e))
+  segments-now = subst (λ (z : ℕ × List (Cond × Hidden)). Segments files macros old was now z.0 z.1) (λ i. (length was.top.work - length (work i), sym starts i)) (phase-segments r phase none uncalled near)
+
   reaches-name : (p : Phase files macros old now was e) × IsReady files macros p
   reaches-name = (phase_now, record { below = λ one free some. let long = ap length work in omega (arith, long) })
     where
       phase_now : Phase files macros old now was e
       phase_now = record {
         at = at_now;
+        next = at_now + 1;
         n = length rest;
-        fits = let long = ap length bottom-is in omega (arith, long);
+        fits = let long = ap length bottom-first in omega (arith, long);
         most = let long = ap length work in let most = phase.most in omega (arith, long, near, most);
         outs = length e.top.out;
+        low = let same = ap length (out-is r phase none uncalled near) in omega (arith, same);
         faults = length e.refusals.faults.items;
         came = came_now;
+        begins = at_item refl missed-name;
+        before = segments-now;
+        waits = λ c p waits.
+            let w = phase.waits c p waits in
+            let le = next-before in
+            record {
+              puts = passed (w.last at_now le) (ap (λ l. items_at now.sets l c) (drop_all (length e.top.out) (put_out e) out-long));
+              last = λ index far. w.last index (omega (arith, le, far));
+            };
         has = λ c p k. (comes c p k).had;
         place = place-now;
         suffix = λ c p live m le. let long = ap length work in phase.suffix c p live m (omega (arith, long, near, le));
         alike = λ size c d p q span live live_d pending pending_d.
             let came = λ (x : List ℕ) (listed : IsConfig old.sets.arities x) (is : now.sets.has e.refusals.live.0 x ≡ true) (more : IsPending (state_now now e x) (last_at now e (length rest) x)).
-            (placed-within (provenance_of files) (macros x) (seen_at old was.top.work x) (came_now x) (length (seen_at old (drop (at_now + 1) was.top.work) x)) (last_at now e (length rest) x) (state_now now e x) (place-now x listed is) more).came_is in
+            (placed-within (provenance_of files) (macros x) (seen_at old was.top.work x) (came_now x) (length (tokens_from old was (at_now + 1) x)) (seen_at now (take (length e.top.out) (put_out e)) x) (last_at now e (length rest) x) (state_now now e x) (place-now x listed is) more).came_is in
             let k = came c p live pending in
             let l = came d q live_d pending_d in
             alike-name size c d (comes c p k) (comes d q l) span

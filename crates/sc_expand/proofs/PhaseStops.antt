@@ -1,6 +1,6 @@
 -- Where the name that stands first has so many different calls, so many configurations come to one
 -- name of the list that no two of them expand alike.
-use Rattle.std.proofs.Common.{◌≡◌, ◌⊎◌, inl, inr, ℕ, ◌+◌, ◌≤◌, Bool, true, false, true≢false, List, [], ◌∷◌, All, Option, None, Some, drop, length, take, refl, sym, ap, subst, ◌∙◌}
+use Rattle.std.proofs.Common.{◌≡◌, ◌⊎◌, inl, inr, ℕ, ◌+◌, ◌≤◌, Bool, true, false, true≢false, List, [], ◌∷◌, All, Option, None, Some, drop, length, refl, sym, ap, subst, ◌∙◌}
 use Rattle.c11_macros.specs.Expansion.{IsWithin, case_of, fitted_case, is_looked_up, stays}
 use Rattle.c11_macros.specs.Hidden as model
 use Rattle.c11_macros.specs.Macros.{Definition, Macros}
@@ -33,7 +33,6 @@ use Rattle.sc_expand.specs.CallStops.{HasCalls, StopsAt}
 use Rattle.sc_hoist.specs.Calls.{call_end, call_end_at, call_places, closed}
 use Rattle.sc_model.proofs.SetLemmas.{IsConfig-kept}
 use Rattle.sc_model.specs.Sets.{IsConfig}
-use Rattle.sc_subst.specs.declared.hidden.Hidden.{Hidden}
 use Rattle.sc_subst.specs.Seen.{seen_hidden}
 use Rattle.c11_macros.proofs.CallEnds.{cons-some}
 

@@ -3,7 +3,7 @@
 use Rattle.std.proofs.Common.{◌≡◌, List, [], ◌∷◌, ◌++◌, append-nil, length, refl, sym, ap, ◌∙◌, subst, arith}
 use Rattle.c11_macros.specs.Hidden.{Failure, Hidden, Provenance}
 use Rattle.c11_macros.specs.Macros.{Macros}
-use Rattle.c11_macros.specs.Runs.{Passes, begins, goes_on, Runs, Settles, Uses, whole, open_end, IsHeld, held, fails, over}
+use Rattle.c11_macros.specs.Runs.{Passes, begins, goes_on, Runs, Settles, Uses, whole, open_end, IsHeld, held, fails, over, waits}
 use Rattle.sc_expand.proofs.NameRuns.{IsInFront, NameReaches, fails-runs, name-move, name-over, name-start, name-waits}
 use Rattle.sc_expand.specs.Open.{LeadsOn, Waits, alone, no_step, open_call, step}
 use Rattle.sc_expand.specs.Plain as plain
@@ -65,11 +65,11 @@ module _ {P : Type 0} (provenance : Provenance P) (macros : Macros) where
   -- nothing of the name is left, or it is being expanded, with as many tokens behind it and left
   pub data Stood (source before behind left : List (Hidden P)) (t : Hidden P) : State P → Type 0 where
     over_now : {done : List (Hidden P)} (u : Uses P) → Runs provenance macros (t ∷ []) behind done (over left) u → Stood source before behind left t (scanning (before ++ done) left)
-    going : {s : State P} (x : InName source s) → length x.behind ≡ length behind → length x.left ≡ length left → Stood source before behind left t s
+    going : {s : State P} (x : InName source s) → x.out ≡ before → length x.behind ≡ length behind → length x.left ≡ length left → Stood source before behind left t s
 
   pub stood : (source before behind left : List (Hidden P)) (t : Hidden P) (s : State P) → Passes provenance macros source before (t ∷ behind) → NameReaches provenance macros t behind before s left → Stood source before behind left t s
-  stood source before behind left t (waiting out work w) p r = going (record { out = before; name = t; behind = behind; passes = p; left = left; reaches = r; some = tt }) refl refl
-  stood source before behind left t (expanding out work w n s) p r = going (record { out = before; name = t; behind = behind; passes = p; left = left; reaches = r; some = tt }) refl refl
+  stood source before behind left t (waiting out work w) p r = going (record { out = before; name = t; behind = behind; passes = p; left = left; reaches = r; some = tt }) refl refl refl
+  stood source before behind left t (expanding out work w n s) p r = going (record { out = before; name = t; behind = behind; passes = p; left = left; reaches = r; some = tt }) refl refl refl
   stood source before behind left t (scanning out work) p r = by r.front refl
     where
       by : (front : List (Hidden P)) → r.front ≡ front → Stood source before behind left t (scanning out work)
@@ -77,11 +77,11 @@ module _ {P : Type 0} (provenance : Provenance P) (macros : Macros) where
           let same : work ≡ left = r.bottom_is ∙ ap (λ l. l ++ left) none in
           let n = name-over provenance macros t behind before out work left r same in
           subst (λ (z : List (Hidden P) × List (Hidden P)). Stood source before behind left t (scanning z.0 z.1)) (λ i. ((sym n.done_is ∙ append-nil out) i, sym same i)) (over_now n.uses n.runs)
-      by (x ∷ xs) is = going (record { out = before; name = t; behind = behind; passes = p; left = left; reaches = r; some = λ none. cc }) refl refl
+      by (x ∷ xs) is = going (record { out = before; name = t; behind = behind; passes = p; left = left; reaches = r; some = λ none. cc }) refl refl refl
 
   stands : {source before behind left : List (Hidden P)} {t : Hidden P} {s : State P} → Passes provenance macros source before (t ∷ behind) → Stood source before behind left t s → Opens source s
   stands p (over_now u r) = between (goes_on u p r)
-  stands p (going x long own) = inside x
+  stands p (going x from long own) = inside x
 
   -- ---- from the first step on
 
@@ -113,18 +113,33 @@ module _ {P : Type 0} (provenance : Provenance P) (macros : Macros) where
       none-front [] left is = refl
       none-front (y ∷ ys) left is = absurd (cc)
 
+  pub no-waits : {s : State P} → Waits macros s → (out : List (Hidden P)) → s ≡ scanning out [] → ⊥
+  no-waits (alone _ rest t is) out e = cc
+  no-waits (open_call _ rest t is) out e = cc
+
+  -- the name waits, and its run has put this out
+  pub record HasWaited {source : List (Hidden P)} {s : State P} (x : InName source s) (out : List (Hidden P)) : Type 0 where
+    pub done : List (Hidden P)
+    pub name : Hidden P
+    pub rest : List (Hidden P)
+    pub uses : Uses P
+    pub runs : Runs provenance macros (x.name ∷ []) x.behind done (waits name rest) uses
+    pub is : out ≡ x.out ++ done
+
+  abbrev waited-at : {source : List (Hidden P)} (out rest : List (Hidden P)) (g : Hidden P) (x : InName source (scanning out (g ∷ rest))) → Waits macros (scanning out (g ∷ rest)) → HasWaited x out
+  waited-at out rest g x w =
+      let n = name-waits provenance macros x.name g x.behind x.out out rest x.left x.reaches x.some w in
+      record { done = n.later; name = g; rest = rest; uses = n.uses; runs = n.runs; is = sym (append-nil out) ∙ n.done_is }
+
+  pub has-waited : {source : List (Hidden P)} {s : State P} (x : InName source s) → Waits macros s → (out : List (Hidden P)) → ((o w : List (Hidden P)) → s ≡ scanning o w → o ≡ out) → HasWaited x out
+  has-waited x (alone o rest t is) out told = subst (HasWaited x) (told o (t ∷ rest) refl) (waited-at o rest t x (alone o rest t is))
+  has-waited x (open_call o rest t is) out told = subst (HasWaited x) (told o (t ∷ rest) refl) (waited-at o rest t x (open_call o rest t is))
+
   pub opens-wait : (source out work : List (Hidden P)) → Opens source (scanning out work) → Waits macros (scanning out work) → Settles provenance macros source out work
-  opens-wait source out work opens w = by work w (in-name source (scanning out work) opens (λ o none. some w o none))
+  opens-wait source out work opens w = by work w (in-name source (scanning out work) opens (no-waits w))
     where
-      some : {work : List (Hidden P)} → Waits macros (scanning out work) → (o : List (Hidden P)) → scanning out work ≡ scanning o [] → ⊥
-      some (alone _ rest t is) o none = cc
-      some (open_call _ rest t is) o none = cc
-
-      ended : (g : Hidden P) (rest : List (Hidden P)) → Waits macros (scanning out (g ∷ rest)) → InName source (scanning out (g ∷ rest)) → Settles provenance macros source out (g ∷ rest)
-      ended g rest w x =
-          let n = name-waits provenance macros x.name g x.behind x.out out rest x.left x.reaches x.some w in
-          subst (λ l. Settles provenance macros source l (g ∷ rest)) (sym n.done_is ∙ append-nil out) (open_end n.uses x.passes n.runs)
-
       by : (work : List (Hidden P)) → Waits macros (scanning out work) → InName source (scanning out work) → Settles provenance macros source out work
-      by [] w x = absurd (some w out refl)
-      by (g ∷ rest) w x = ended g rest w x
+      by [] w x = absurd (no-waits w out refl)
+      by (g ∷ rest) w x =
+          let n = waited-at out rest g x w in
+          subst (λ l. Settles provenance macros source l (g ∷ rest)) (sym n.is) (open_end n.uses x.passes n.runs)

@@ -18,7 +18,7 @@ use Rattle.c11_macros.specs.Trace as used
 use Rattle.c11_macros.specs.Trace.{Use, looked_up_at, trace, trace_each, trace_rescan}
 use Rattle.sc_expand.proofs.Lower.{lower-min}
 use Rattle.sc_expand.proofs.NameRuns.{leaves-one}
-use Rattle.sc_expand.proofs.Placed.{over-source}
+use Rattle.sc_expand.proofs.PassesLaws.{over-source}
 use Rattle.sc_expand.proofs.PlainNames.{Covers, covers-back, covers-both, covers-front, covers-same, covers-then}
 use Rattle.sc_expand.specs.FootprintSteps.{lower_of}
 

@@ -98,7 +98,7 @@ bottom-top st c o w frame is = by (calls_at st frame.calls.items c) is
     by [] is = (cc, cc)
     by (x ∷ xs) is = absurd (cc)
 
-bottom-state : (st : Stores) (c : List ℕ) (o w : List (model.Hidden Place)) (below : List Enclosing) (top : Frame) → state_in st below (view_at st top c) c ≡ scanning o w
+pub bottom-state : (st : Stores) (c : List ℕ) (o w : List (model.Hidden Place)) (below : List Enclosing) (top : Frame) → state_in st below (view_at st top c) c ≡ scanning o w
     → (o ≡ seen_at st (put_by below top) c) × (w ≡ seen_at st (bottom_by below top).work c)
 bottom-state st c o w [] top is = bottom-top st c o w top is
 bottom-state st c o w (e ∷ es) top is = by (st.sets.has e.call.cond.0 c) is
@@ -145,7 +145,7 @@ module _ {files : List (List ℕ)} {macros : List ℕ → Macros} {old now : Sto
   running-stands c listed live = told-stands (r.told c listed) live
 
   -- and one that is live does not wait
-  running-apart : (c : List ℕ) → IsConfig old.sets.arities c → IsApart now.sets e c
+  pub running-apart : (c : List ℕ) → IsConfig old.sets.arities c → IsApart now.sets e c
   running-apart c listed live = told-apart (r.told c listed) live
 
   -- one that was refused at first is so still

@@ -7,7 +7,7 @@ use Rattle.sc_base.specs.declared.id.Cond.{Cond}
 use Rattle.sc_base.specs.declared.token.Token.{Token}
 use Rattle.sc_base.specs.Seen.{IsHeld}
 use Rattle.sc_expand.proofs.AlikeLemmas.{of-all, others-none}
-use Rattle.sc_expand.proofs.Ending.{bared, items-bared}
+use Rattle.sc_expand.proofs.Ending.{bared}
 use Rattle.sc_expand.proofs.SeenLemmas.{AreHeld-nil}
 use Rattle.sc_expand.specs.Alike.{IsAlikeCall, IsAlikeExpansion, IsAlikeFrame, no_others, others_at}
 use Rattle.sc_expand.specs.declared.expansion.Expansion.{Expansion}
@@ -17,6 +17,7 @@ use Rattle.sc_expand.specs.Machine.{IsHeldExpansion}
 use Rattle.sc_expand.specs.Running.{IsDone, IsUntouched, PutsOut}
 use Rattle.sc_expand.specs.Seen.{AreHeld, IsHeldCall, IsHeldEnclosing, Stores, failures_at, provenance_of, seen_at}
 use Rattle.sc_expand.specs.Settling.{IsHeldSettled, IsSettled}
+use Rattle.sc_expand.specs.Spans.{InSegments}
 use Rattle.sc_guarded.specs.Items.{items_at}
 use Rattle.sc_hoist.specs.Alike.{AreAlike, AreAlikeFaults, IsAlike}
 use Rattle.sc_model.specs.Sets.{IsCond, IsConfig, IsNever}
@@ -58,20 +59,22 @@ module _ (old : Stores) (e : Expansion) (list : List (Cond × Hidden)) (live : C
   }
 
   module _ (new : Stores) (after : Expansion) (s : Settled) (done_is : s.done ≡ map bared after.top.out) (rest_is : s.rest ≡ after.rest) (held_is : s.held ≡ after.refusals.faults) where
-    pub settled-is : (files : List (List ℕ)) (macros : Macros) (c : List ℕ) → IsConfig old.sets.arities c → PutsOut old new e.refusals.live.0 e.top.out after.top.out
-        → IsDone (provenance_of files) macros (seen_at old e.top.work c) (seen_at new after.top.out c) (seen_at new after.rest c) (failures_at new.sets after.refusals.faults.items c) (old.sets.has e.refusals.live.0 c)
-        → IsSettled new files s macros (seen_at old list c) c (old.sets.has live.0 c)
-    settled-is files macros c listed puts is = record {
-      out = items_at new.sets after.top.out c;
-      done = ap (λ l. items_at new.sets l c) done_is ∙ items-bared new.sets after.top.out c;
-      is =
-          let one = subst (λ l. IsDone (provenance_of files) macros (seen_at old l c) (seen_at new after.top.out c) (seen_at new after.rest c) (failures_at new.sets after.refusals.faults.items c) (old.sets.has e.refusals.live.0 c)) work is in
-          let two = subst (λ (k : Cond). IsDone (provenance_of files) macros (seen_at old list c) (seen_at new after.top.out c) (seen_at new after.rest c) (failures_at new.sets after.refusals.faults.items c) (old.sets.has k.0 c)) live_is one in
-          let three = subst (λ r. IsDone (provenance_of files) macros (seen_at old list c) (seen_at new after.top.out c) (seen_at new r c) (failures_at new.sets after.refusals.faults.items c) (old.sets.has live.0 c)) (sym rest_is) two in
-          subst (λ v. IsDone (provenance_of files) macros (seen_at old list c) (seen_at new after.top.out c) (seen_at new s.rest c) (failures_at new.sets v.items c) (old.sets.has live.0 c)) (sym held_is) three;
-      none = λ lacks.
+    pub settled-is : (files : List (List ℕ)) (macros : List ℕ → Macros) → PutsOut old new e.refusals.live.0 e.top.out after.top.out
+        → ((c : List ℕ) → IsConfig old.sets.arities c → IsDone (provenance_of files) (macros c) (seen_at old e.top.work c) (seen_at new after.top.out c) (seen_at new after.rest c) (failures_at new.sets after.refusals.faults.items c) (old.sets.has e.refusals.live.0 c))
+        → InSegments (seen_hidden old.names old.hides) (provenance_of files) macros old.sets e.top.work e.refusals.live.0 new.sets (seen_hidden new.names new.hides) (length e.top.work) after.top.out
+        → IsSettled old new files macros list live.0 s
+    settled-is files macros puts is segments = record {
+      out = after.top.out;
+      tokens = done_is;
+      is = λ c listed.
+          subst (λ (z : List (Cond × Hidden) × Cond × List (Cond × Hidden) × List Fault). IsDone (provenance_of files) (macros c) (seen_at old z.0 c) (seen_at new after.top.out c) (seen_at new z.2 c) (failures_at new.sets z.3 c) (old.sets.has z.1.0 c))
+          (λ i. (work i, live_is i, sym rest_is i, (sym held_is i).items)) (is c listed);
+      none = λ c listed lacks.
           none-found (seen_hidden new.names new.hides) (items_at new.sets after.top.out c)
           (puts.apart c listed (ap (λ (k : Cond). old.sets.has k.0 c) live_is ∙ lacks) ∙ ap (λ l. seen_at old l c) fresh.out);
+      segments =
+          subst (λ (z : List (Cond × Hidden) × Cond). InSegments (seen_hidden old.names old.hides) (provenance_of files) macros old.sets z.0 z.1.0 new.sets (seen_hidden new.names new.hides) (length z.0) after.top.out)
+          (λ i. (work i, live_is i)) segments;
     }
 
     pub settled-held : (files : ℕ) → IsHeldExpansion new files after → PutsOut old new e.refusals.live.0 e.top.out after.top.out → IsHeldSettled new files s

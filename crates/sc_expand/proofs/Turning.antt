@@ -41,7 +41,7 @@ with_below e calls below = record e { top = record e.top { calls = calls }; belo
 
 -- ---- what was put out
 
-put_by-held : {st : Stores} {files : ℕ} (below : List Enclosing) (top : Frame) → All (IsHeldEnclosing st files) below → IsHeldFrame st files top → AreHeld st files (put_by below top)
+pub put_by-held : {st : Stores} {files : ℕ} (below : List Enclosing) (top : Frame) → All (IsHeldEnclosing st files) below → IsHeldFrame st files top → AreHeld st files (put_by below top)
 put_by-held {st} {files} [] top held here = here.out
 put_by-held {st} {files} (e ∷ es) top held here = (All-head (IsHeldEnclosing st files) e es held).frame.out
 

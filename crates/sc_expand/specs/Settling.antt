@@ -1,24 +1,28 @@
 -- What a list settles to under all configurations at once, seen at one.
-use Rattle.std.specs.Prelude.{◌≡◌, ℕ, ◌<◌, Bool, false, List, [], All, map}
-use Rattle.c11_macros.specs.Hidden as model
+use Rattle.std.specs.Prelude.{◌≡◌, ℕ, ◌<◌, false, List, [], All, length}
 use Rattle.c11_macros.specs.Macros.{Macros}
-use Rattle.sc_base.specs.declared.place.Place.{Place}
+use Rattle.sc_base.specs.declared.id.Cond.{Cond}
 use Rattle.sc_base.specs.Seen.{IsHeld}
 use Rattle.sc_expand.specs.declared.settling.Settled.{Settled}
+use Rattle.sc_expand.specs.Having.{tokens_in}
 use Rattle.sc_expand.specs.Running.{IsDone}
 use Rattle.sc_expand.specs.Seen.{AreHeld, Stores, failures_at, provenance_of, seen_at}
+use Rattle.sc_expand.specs.Spans.{InSegments}
 use Rattle.sc_guarded.specs.Items.{items_at}
-use Rattle.sc_model.specs.Sets.{IsCond, IsNever}
+use Rattle.sc_model.specs.Sets.{IsCond, IsConfig, IsNever}
 use Rattle.sc_subst.specs.declared.hidden.Hidden.{Hidden}
 use Rattle.sc_subst.specs.Seen.{seen_hidden}
 
--- At the configuration the lists are what this list settles to with these macros, or its failure
--- alone. One that is not asked for has nothing of them.
-pub record IsSettled (st : Stores) (files : List (List ℕ)) (s : Settled) (macros : Macros) (list : List (model.Hidden Place)) (c : List ℕ) (asked : Bool) : Type 0 where
-  pub out : List Hidden
-  pub done : items_at st.sets s.done c ≡ map (λ h. h.token) out
-  pub is : IsDone (provenance_of files) macros list (map (seen_hidden st.names st.hides) out) (seen_at st s.rest c) (failures_at st.sets s.held.items c) asked
-  pub none : asked ≡ false → out ≡ []
+-- The lists are at each configuration what this list settles to with its macros, or its failure
+-- alone: what is put out is what each item of the list became, one after the other. One that is not
+-- asked for has nothing of them.
+pub record IsSettled (old new : Stores) (files : List (List ℕ)) (macros : List ℕ → Macros) (list : List (Cond × Hidden)) (live : ℕ) (s : Settled) : Type 0 where
+  pub out : List (Cond × Hidden)
+  pub tokens : s.done ≡ tokens_in out
+  pub is : (c : List ℕ) → IsConfig old.sets.arities c → IsDone (provenance_of files) (macros c) (seen_at old list c) (seen_at new out c) (seen_at new s.rest c) (failures_at new.sets s.held.items c)
+      (old.sets.has live c)
+  pub none : (c : List ℕ) → IsConfig old.sets.arities c → old.sets.has live c ≡ false → items_at new.sets out c ≡ []
+  pub segments : InSegments (seen_hidden old.names old.hides) (provenance_of files) macros old.sets list live new.sets (seen_hidden new.names new.hides) (length list) out
 
 -- the stores made all conditions, texts and hide sets, the table of file names has so many, and
 -- each token that is put out is some configuration's

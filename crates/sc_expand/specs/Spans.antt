@@ -1,9 +1,10 @@
--- Which configurations expand an item of a list alike.
-use Rattle.std.specs.Prelude.{◌≡◌, ℕ, ◌+◌, ◌≤◌, true, List, [], ◌∷◌, All, AllPairs, drop, length, map, slice_get, take, Some}
+-- What becomes of each item of a list that settles, at each configuration, and which configurations
+-- expand an item alike.
+use Rattle.std.specs.Prelude.{◌≡◌, ℕ, ◌+◌, ◌≤◌, true, List, [], ◌∷◌, All, AllPairs, drop, flat_map, length, map, slice_get, take, Some}
 use Rattle.c11_macros.specs.Expansion.{case_of, stays}
 use Rattle.c11_macros.specs.Hidden.{Hidden, Provenance}
 use Rattle.c11_macros.specs.Macros.{Macros}
-use Rattle.c11_macros.specs.Runs.{End, Passes, Runs, Uses}
+use Rattle.c11_macros.specs.Runs.{End, Passes, Runs, Settles, Uses}
 use Rattle.c11_macros.specs.Trace.{Agree}
 use Rattle.sc_base.specs.declared.id.Cond.{Cond}
 use Rattle.sc_base.specs.declared.stop.Stop.{Stop}
@@ -50,6 +51,24 @@ module _ {T P : Type 0} (see : T → Hidden P) (provenance : Provenance P) (macr
     pub has : All (λ c. s.has cond c ≡ true) configs
     pub come : All (λ c. (x : ComesAt list at c) × (case_of (macros c) (see x.item.1) (behind list at c) ≡ stays → ⊥)) configs
     pub apart : AllPairs (λ c d. (size : ℕ) → IsSpan list at size c d → ⊥) configs
+
+  -- ---- what an item becomes, by later stores
+
+  -- what is put out for it, where the configuration comes to it
+  pub data PutsOutAt (list : List (Cond × T)) (at : ℕ) (later : Sets) (look : T → Hidden P) (out : List (Cond × T)) (c : List ℕ) : Type 0 where
+    comes : (x : ComesAt list at c) → map look (items_at later out c) ≡ x.done → PutsOutAt list at later look out c
+    passed : (ComesAt list at c → ⊥) → items_at later out c ≡ [] → PutsOutAt list at later look out c
+
+  -- the configuration isn't refused
+  abbrev pub IsSettling : List (Cond × T) → List ℕ → Type 0
+  IsSettling list c = (done : List (Hidden P)) × (rest : List (Hidden P)) × Settles provenance (macros c) (map see (items_at s list c)) done rest
+
+  -- What is put out is what each of so many first items became, one after the other.
+  pub record InSegments (list : List (Cond × T)) (cond : ℕ) (later : Sets) (look : T → Hidden P) (count : ℕ) (out : List (Cond × T)) : Type 0 where
+    pub segments : List (List (Cond × T))
+    pub many : length segments ≡ count
+    pub is : out ≡ flat_map (λ segment. segment) segments
+    pub each : (at : ℕ) (x : List (Cond × T)) → slice_get segments at ≡ Some x → (c : List ℕ) → IsConfig s.arities c → s.has cond c ≡ true → IsSettling list c → PutsOutAt list at later look x c
 
 -- more configurations than the limit expand one item differently, or there is no memory
 abbrev pub StopsApart : {T P : Type 0} → (T → Hidden P) → Provenance P → (List ℕ → Macros) → Sets → ℕ → List (Cond × T) → ℕ → Stop → Type 0

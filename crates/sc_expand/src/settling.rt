@@ -54,9 +54,8 @@ pub fn settle<C: Conditions>(
     requires table { IsTable (C.sets conds.old) names.old table.now }
     requires held { AreHeld (stores (C.sets conds.old) names.old sets.old) (length files.now) list }
     requires live_own { IsCond (C.sets conds.old) live.0 }
-    ensures settles { IfOk result (λ s. (c : List ℕ) → IsConfig (C.sets conds.old).arities c
-        → IsSettled (stores (C.sets conds.new) names.new sets.new) files.now s (macros_at (C.sets conds.old) names.old table.now c)
-        (seen_at (stores (C.sets conds.old) names.old sets.old) list c) c ((C.sets conds.old).has live.0 c)) }
+    ensures settles { IfOk result (IsSettled (stores (C.sets conds.old) names.old sets.old) (stores (C.sets conds.new) names.new sets.new) files.now
+        (macros_at (C.sets conds.old) names.old table.now) list live.0) }
     ensures held { IfOk result (IsHeldSettled (stores (C.sets conds.new) names.new sets.new) (length files.now)) }
     ensures unchanged { IfOk result (λ s. DefinesNone (C.sets conds.old) names.old (macros_at (C.sets conds.old) names.old table.now) live.0 (tokens_in list)
         → IsRestricted (C.sets conds.new) live.0 (tokens_in list) s.done × ((s.held.items ≡ [])

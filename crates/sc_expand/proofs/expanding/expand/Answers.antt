@@ -54,9 +54,9 @@ returns g c =
     let live_own = c.requires.live_own in
     record {
       expands = λ config listed here.
-          done-expanded s new last n later hides now files (macros config) config work settled list live more expanded h.tokens h.unhidden f.list f.faults first second is.held live_own listed is_closed (is.settles config listed) here;
+          done-expanded s new last n later hides now files macros config work settled list live more expanded h.tokens h.unhidden f.list f.faults first second is.held live_own listed is_closed is.settles here;
       others = λ config listed other.
-          done-empty s new last n later hides now files (macros config) config work settled list live more expanded h.tokens h.unhidden f.list f.faults first second is.held live_own listed is_closed (is.settles config listed) other;
+          done-empty s new last n later hides now files macros config work settled list live more expanded h.tokens h.unhidden f.list f.faults first second is.held live_own listed is_closed is.settles other;
       held = answer-held new last later now (length files) settled live.0 more expanded second is.held f.list f.faults is_closed;
       some = answer-some new last later now (length files) settled live.0 more expanded second is.held f.list f.faults is_closed;
       unchanged = λ none.

@@ -60,10 +60,10 @@ returns g c =
     let into = c.swap.ensures.y_after in
     let back = sym c.swap-2.ensures.x_after in
     record {
-      settles = λ config listed.
-          subst (λ h. IsSettled (stores last later h) files settled (macros config) (seen_at (stores s n c.args.sets.now) list config) config (s.has live.0 config)) back
-          (subst (λ h. IsSettled new files settled (macros config) (seen_at (stores s n h) list config) config (s.has live.0 config)) into
-          (settled-is old begun list live fresh e.live e.work new after settled f.done f.rest f.held files (macros config) config listed ran.out (ran.done config listed)));
+      settles =
+          subst (λ h. IsSettled (stores s n c.args.sets.now) (stores last later h) files macros list live.0 settled) back
+          (subst (λ h. IsSettled (stores s n h) new files macros list live.0 settled) into
+          (settled-is old begun list live fresh e.live e.work new after settled f.done f.rest f.held files macros ran.out (λ config listed. (ran.done config listed).0) ran.segments));
       held = subst (λ h. IsHeldSettled (stores last later h) (length files) settled) back (settled-held old begun list live fresh e.live e.work new after settled f.done f.rest f.held (length files) ran.held ran.out);
       unchanged = λ none.
           let was = ran.unchanged (looks-given s n macros begun (map bared list) live e.live (ap (map bared) e.work) none) in
@@ -71,7 +71,7 @@ returns g c =
           let none_waits = λ (x : List ℕ) (listed : IsConfig s.arities x).
           ap (λ (r : Refusals). last.has r.waiting.0 x) was.1
           ∙ (ap (λ (k : Cond). last.has k.0 x) e.waiting ∙ (c.run-ran.ensures.grows.sets.at c.never-never.result.0 x c.never-never.ensures.own listed ∙ c.never-never.ensures.meaning.at x listed)) in
-          (same.0, (same.1, λ x listed. ap (λ l. items_at last l x) f.rest ∙ none-found (seen_hidden later after.sets) (items_at last after.rest x) (ran.rest x listed (none_waits x listed))));
+          (same.0, (same.1, λ x listed. ap (λ l. items_at last l x) f.rest ∙ none-found (seen_hidden later after.sets) (items_at last after.rest x) ((ran.done x listed).1 (none_waits x listed))));
       stops = tt;
       alike = λ one two p q here there same defines.
           let looked = subst (λ h. DefineAlike (provenance_of files) (macros one) (macros two) (seen_at (stores s n h) list one)) (sym into) defines in

@@ -1,5 +1,6 @@
 use Rattle.std.proofs.Common.{rules, length, sym, subst}
 use Rattle.sc_expand.proofs.BetweenTurns.{turns-less, turns-rested, turns-start, turns-stop, turns-taken}
+use Rattle.sc_expand.proofs.PhaseSegments.{run-segments}
 use Rattle.sc_expand.proofs.PlainTables.{entry_names, within-table}
 use Rattle.sc_expand.proofs.RunLemmas.{less-le, rested-le, running-done, running-is, running-out, running-unchanged}
 use Rattle.sc_expand.proofs.SeenLemmas.{Grows-trans, IsTable-Grows}
@@ -46,8 +47,8 @@ returns-then-not-went g c =
     let ended = turned.ended c.if-not-went.true in
     record {
       held = turned.held;
-      done = running-done after.running ended;
-      rest = after.running.rest;
+      done = λ config listed. (running-done after.running ended config listed, after.running.rest config listed);
+      segments = run-segments after.running after.phase ended;
       out = running-out after.running ended;
       unchanged = running-unchanged after.running ended c.requires.untouched.out;
       stops = tt;

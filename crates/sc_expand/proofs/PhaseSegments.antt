@@ -1,0 +1,244 @@
+-- What a phase has put out is that of its item, behind what was put out for those before it.
+use Rattle.std.proofs.Common.{◌≡◌, ◌⊎◌, inl, inr, ℕ, zero, suc, ◌+◌, ◌-◌, ◌<◌, ◌≤◌, Bool, true, false, true≢false, List, [], ◌∷◌, ◌++◌, append-nil, Some, Ok, Err, drop, flat_map, length, length-append, map, slice_get, take, refl, sym, ap, ◌∙◌, subst, arith}
+use Rattle.std.proofs.lemmas.Bool.{cases_lt}
+use Rattle.std.proofs.lemmas.Grind.{flat_map-append}
+use Rattle.std.proofs.lemmas.List.{append_cancel_left, length-drop, length-map, take-append-drop}
+use Rattle.std.proofs.lemmas.List.Elements.{All-drop, All-take}
+use Rattle.std.proofs.lemmas.Option.{slice_get_within}
+use Rattle.std.proofs.Math.Seq.{drop-append_seam, take-append_seam}
+use Rattle.c11_macros.proofs.SettlesLaws.{one-settled}
+use Rattle.c11_macros.specs.Hidden as model
+use Rattle.c11_macros.specs.Hidden.{Failure}
+use Rattle.c11_macros.specs.Macros.{Macros}
+use Rattle.c11_macros.specs.Runs.{Passes}
+use Rattle.sc_base.specs.declared.id.Cond.{Cond}
+use Rattle.sc_base.specs.declared.place.Place.{Place}
+use Rattle.sc_expand.proofs.Behind.{Fall-weaker, behind-falls, below, below-all, below-items}
+use Rattle.sc_expand.proofs.MachineLemmas.{IsTold}
+use Rattle.sc_expand.proofs.MachineLemmas as told
+use Rattle.sc_expand.proofs.PhaseLists.{length-seen}
+use Rattle.sc_expand.proofs.PhaseItems.{come-many, comes-by, from-later}
+use Rattle.sc_expand.proofs.Phases.{Begins, Comes, Phase, Puts, Segments, Settling, at_item, at_start, last_at, state_now, tokens_from}
+use Rattle.sc_expand.proofs.Placed.{IsNext, Placed, away, inside, passed, placed-between, within-more}
+use Rattle.sc_expand.proofs.RunLemmas.{IsRunning}
+use Rattle.sc_expand.proofs.SeenLemmas.{seen_at-Grows, seen_at-append}
+use Rattle.sc_expand.proofs.TakingParts.{none-found}
+use Rattle.sc_expand.specs.declared.expansion.Expansion.{Expansion}
+use Rattle.sc_expand.specs.Having.{behind_at}
+use Rattle.sc_expand.specs.Machine.{at, state_in}
+use Rattle.sc_expand.specs.Plain.{scanning}
+use Rattle.sc_expand.specs.Running.{HasEnded, bottom, bottom_by, left_at, put_by, put_out}
+use Rattle.sc_expand.specs.Seen.{AreHeld, Grows, IsHeldToken, Stores, calls_at, provenance_of, seen_at, state_by, view_at}
+use Rattle.sc_expand.specs.Spans as spans
+use Rattle.sc_guarded.specs.Items.{items_at}
+use Rattle.sc_model.proofs.ListLemmas.{slice_get-front, slice_get-seam}
+use Rattle.sc_model.proofs.SetLemmas.{IsConfig-Keeps}
+use Rattle.sc_model.specs.Sets.{IsCond, IsConfig}
+use Rattle.sc_subst.specs.declared.hidden.Hidden.{Hidden}
+use Rattle.sc_subst.specs.Seen.{seen_hidden}
+
+-- so many lists one after the other
+abbrev joined : {A : Type 0} → List (List A) → List A
+joined lists = flat_map (λ list. list) lists
+
+-- ---- parts of a list that is held
+
+pub held-take : {st : Stores} {files : ℕ} (n : ℕ) (list : List (Cond × Hidden)) → AreHeld st files list → AreHeld st files (take n list)
+held-take {st} {files} n list held = record {
+  own = All-take (λ (item : Cond × Hidden). IsCond st.sets item.0.0) n list held.own;
+  held = All-take (λ (item : Cond × Hidden). IsHeldToken st files item.1) n list held.held;
+}
+
+pub held-drop : {st : Stores} {files : ℕ} (n : ℕ) (list : List (Cond × Hidden)) → AreHeld st files list → AreHeld st files (drop n list)
+held-drop {st} {files} n list held = record {
+  own = All-drop (λ (item : Cond × Hidden). IsCond st.sets item.0.0) n list held.own;
+  held = All-drop (λ (item : Cond × Hidden). IsHeldToken st files item.1) n list held.held;
+}
+
+held-part : {st : Stores} {files : ℕ} (lists : List (List (Cond × Hidden))) (n : ℕ) (part : List (Cond × Hidden)) → slice_get lists n ≡ Some part → AreHeld st files (joined lists) → AreHeld st files part
+held-part [] n part is held = absurd (cc)
+held-part {st} {files} (list ∷ lists) zero part is held =
+    let same : list ≡ part = cc in
+    subst (AreHeld st files) (take-append_seam list (joined lists) ∙ same) (held-take (length list) (list ++ joined lists) held)
+held-part {st} {files} (list ∷ lists) (suc n) part is held =
+    held-part lists n part is (subst (AreHeld st files) (drop-append_seam list (joined lists)) (held-drop (length list) (list ++ joined lists) held))
+
+-- ---- segments
+
+module _ (files : List (List ℕ)) (macros : List ℕ → Macros) (old now : Stores) (was : Expansion) where
+  -- what has the same tokens
+  pub puts-as : (new : Stores) (index : ℕ) (out later : List (Cond × Hidden)) (c : List ℕ) → seen_at new later c ≡ seen_at now out c → Puts files macros old was index now out c → Puts files macros old was index new later c
+  puts-as new index out later c same (spans.comes x is) = spans.comes x (same ∙ is)
+  puts-as new index out later c same (spans.passed off none) = spans.passed off (none-found (seen_hidden new.names new.hides) (items_at new.sets later c) (same ∙ ap (map (seen_hidden now.names now.hides)) none))
+
+  pub segments-Grows : {new : Stores} {many count : ℕ} {out : List (Cond × Hidden)} → Grows old now → Grows now new → AreHeld now many out → Segments files macros old was now count out → Segments files macros old was new count out
+  segments-Grows {new} {many} grows later held s = record {
+    segments = s.segments;
+    many = s.many;
+    is = s.is;
+    each = λ index part found c listed live settles.
+        puts-as new index part part c (seen_at-Grows later c (IsConfig-Keeps grows.sets listed) part (held-part s.segments index part found (subst (AreHeld now many) s.is held))) (s.each index part found c listed live settles);
+  }
+
+  -- one item more
+  segments-one : (count : ℕ) (out last : List (Cond × Hidden)) → Segments files macros old was now count out
+      → ((c : List ℕ) → IsConfig old.sets.arities c → old.sets.has was.refusals.live.0 c ≡ true → Settling files macros old was c → Puts files macros old was count now last c)
+      → Segments files macros old was now (suc count) (out ++ last)
+  segments-one count out last s puts = record {
+    segments = s.segments ++ last ∷ [];
+    many = let long = s.many in omega (arith, length-append s.segments (last ∷ []), long);
+    is = ap (λ l. l ++ last) s.is ∙ sym (flat_map-append (λ list. list) s.segments (last ∷ []) ∙ ap (λ l. joined s.segments ++ l) (append-nil last));
+    each = λ index part found c listed live settles. elim (cases_lt index (length s.segments)) [
+      | inl less ↦ s.each index part (sym (slice_get-front s.segments (last ∷ []) index less) ∙ found) c listed live settles
+      | inr le ↦
+          let within = slice_get_within (s.segments ++ last ∷ []) index part found in
+          let here : index ≡ length s.segments = omega (arith, within, length-append s.segments (last ∷ []), le) in
+          let same : last ≡ part = cc (sym (slice_get-seam s.segments last []) ∙ (ap (slice_get (s.segments ++ last ∷ [])) (sym here) ∙ found)) in
+          subst (λ (z : ℕ × List (Cond × Hidden)). Puts files macros old was z.0 now z.1 c) (λ i. ((sym s.many ∙ sym here) i, same i)) (puts c listed live settles)
+    ];
+  }
+
+  -- some more, to which no configuration comes
+  segments-more : (more count later : ℕ) (out : List (Cond × Hidden)) → later ≡ more + count → Segments files macros old was now count out
+      → ((c : List ℕ) → IsConfig old.sets.arities c → old.sets.has was.refusals.live.0 c ≡ true → Settling files macros old was c → (index : ℕ) → count ≤ index → index < later → Comes files macros old was index c → ⊥)
+      → Segments files macros old was now later out
+  segments-more zero count later out is s off = let same : count ≡ later = omega (arith, is) in subst (λ k. Segments files macros old was now k out) same s
+  segments-more (suc more) count later out is s off =
+      segments-more more (suc count) later out (omega (arith, is)) (subst (Segments files macros old was now (suc count)) (append-nil out)
+      (segments-one count out [] s (λ c listed live settles. spans.passed (off c listed live settles count (omega arith) (omega (arith, is))) refl)))
+      (λ c listed live settles index le less. off c listed live settles index (omega (arith, le)) less)
+
+-- ---- between two items
+
+module _ {files : List (List ℕ)} {macros : List ℕ → Macros} {old now : Stores} {was e : Expansion} (r : IsRunning files macros old now was e) where
+  -- who is not refused goes on or waits
+  settles-on : (c : List ℕ) → IsConfig old.sets.arities c → old.sets.has was.refusals.live.0 c ≡ true → Settling files macros old was c
+      → (now.sets.has e.refusals.live.0 c ≡ true) ⊎ (now.sets.has e.refusals.waiting.0 c ≡ true)
+  settles-on c listed asks settles = by asks (r.told c listed)
+    where
+      by : {asked : Bool} → asked ≡ true → IsTold (provenance_of files) (macros c) (seen_at old was.top.work c) (seen_at now (put_out e) c) (left_at now e c) now c e.below.items (at now e c) asked
+          → (now.sets.has e.refusals.live.0 c ≡ true) ⊎ (now.sets.has e.refusals.waiting.0 c ≡ true)
+      by is (told.unasked not none) = absurd (true≢false (sym is))
+      by is (told.going live none stands opens) = inl live
+      by is (told.failed failure not one holds) =
+          absurd (cc (one-settled (provenance_of files) (macros c) (seen_at old was.top.work c) (Ok (settles.0, settles.1)) (Err failure) settles.2 holds))
+      by is (told.waiting not one s) = inr (ap (λ a. a.waiting) one)
+
+  module _ (phase : Phase files macros old now was e) (none : e.below.items ≡ []) (uncalled : e.top.calls.items ≡ []) (near : length e.top.work ≤ phase.n) where
+    pub bottom-is : (bottom e).work ≡ e.top.work
+    bottom-is = ap (λ bs. (bottom_by bs e.top).work) none
+
+    pub out-is : put_out e ≡ e.top.out
+    out-is = ap (λ bs. put_by bs e.top) none
+
+    pub state-is : (c : List ℕ) → state_now now e c ≡ scanning (seen_at now e.top.out c) (seen_at now e.top.work c)
+    state-is c =
+        let calls : calls_at now e.top.calls.items c ≡ [] = ap (λ l. calls_at now l c) uncalled in
+        ap (λ bs. state_in now bs (view_at now e.top c) c) none ∙ ap (state_by (seen_at now e.top.out c) (seen_at now e.top.work c)) calls
+
+    -- all that is left is the list's own
+    all-own : (m : ℕ) → length e.top.work ≤ m → (c : List ℕ) → below m (behind_at now.sets (bottom e).work c) ≡ behind_at now.sets e.top.work c
+    all-own m le c =
+        ap (λ l. below m (behind_at now.sets l c)) bottom-is
+        ∙ below-all m (behind_at now.sets e.top.work c) (Fall-weaker (length e.top.work) m (behind_at now.sets e.top.work c) le (behind-falls now.sets c e.top.work))
+
+    count-is : (c : List ℕ) → last_at now e phase.n c ≡ length (seen_at now e.top.work c)
+    count-is c = ap length (all-own phase.n near c) ∙ sym (length-seen now e.top.work c)
+
+    place-is : (c : List ℕ) → IsConfig old.sets.arities c → now.sets.has e.refusals.live.0 c ≡ true
+        → Placed (provenance_of files) (macros c) (seen_at old was.top.work c) (phase.came c) (length (tokens_from old was phase.next c)) (seen_at now (take phase.outs (put_out e)) c)
+        (scanning (seen_at now e.top.out c) (seen_at now e.top.work c)) (last_at now e phase.n c)
+    place-is c p live =
+        subst (λ s. Placed (provenance_of files) (macros c) (seen_at old was.top.work c) (phase.came c) (length (tokens_from old was phase.next c)) (seen_at now (take phase.outs (put_out e)) c) s (last_at now e phase.n c))
+        (state-is c) (phase.place c p live)
+
+    -- the configuration comes to what is left, and to nothing between this and the item
+    pub stands : (c : List ℕ) → IsConfig old.sets.arities c → now.sets.has e.refusals.live.0 c ≡ true
+        → Passes (provenance_of files) (macros c) (seen_at old was.top.work c) (seen_at now e.top.out c) (seen_at now e.top.work c)
+        × IsNext (provenance_of files) (macros c) (seen_at old was.top.work c) (length (tokens_from old was phase.next c)) (seen_at now e.top.work c)
+    stands c p live =
+        let count = count-is c in
+        placed-between (provenance_of files) (macros c) (seen_at old was.top.work c) (phase.came c) (length (tokens_from old was phase.next c)) (seen_at now (take phase.outs (put_out e)) c) (last_at now e phase.n c)
+        (seen_at now e.top.out c) (seen_at now e.top.work c) (place-is c p live) (omega (arith, count))
+
+    -- of the last items it has no more than it had
+    pub own-few : (c : List ℕ) → IsConfig old.sets.arities c → now.sets.has e.refusals.live.0 c ≡ true → (m : ℕ) → m ≤ phase.n
+        → length (below m (behind_at now.sets (bottom e).work c)) ≤ length (tokens_from old was (length was.top.work - m) c)
+    own-few c p live m le =
+        let it = phase.suffix c p live m le in
+        let most = phase.most in
+        omega (
+          arith,
+          ap length it.1,
+          length-drop it.0 (below m (behind_at old.sets was.top.work c)),
+          below-items old.sets c m was.top.work (omega (arith, le, most)),
+          length-map (items_at old.sets (drop (length was.top.work - m) was.top.work) c) (seen_hidden old.names old.hides),
+        )
+
+    left-few : (c : List ℕ) → IsConfig old.sets.arities c → now.sets.has e.refusals.live.0 c ≡ true
+        → length (seen_at now e.top.work c) ≤ length (tokens_from old was (length was.top.work - length e.top.work) c)
+    left-few c p live = let few = own-few c p live (length e.top.work) near in let count = ap length (all-own (length e.top.work) (omega arith) c) in omega (arith, few, count, length-seen now e.top.work c)
+
+    -- ---- what was put out
+
+    module _ (one : phase.next ≡ phase.at + 1) (missed : (c : List ℕ) → IsConfig old.sets.arities c → now.sets.has e.refusals.live.0 c ≡ true → phase.came c ≡ false → Comes files macros old was phase.at c → ⊥)
+        (c : List ℕ) (listed : IsConfig old.sets.arities c) (live : now.sets.has e.refusals.live.0 c ≡ true) where
+      abbrev own : List (Cond × Hidden)
+      own = drop phase.outs (put_out e)
+
+      abbrev start : List (model.Hidden Place)
+      start = seen_at now (take phase.outs (put_out e)) c
+
+      parts : seen_at now e.top.out c ≡ start ++ seen_at now own c
+      parts = ap (λ l. seen_at now l c) (sym out-is ∙ sym (take-append-drop phase.outs (put_out e))) ∙ seen_at-append now (take phase.outs (put_out e)) own c
+
+      -- the item's, by where the configuration stands
+      puts-by : (out work : List (model.Hidden Place)) (left : ℕ) → Placed (provenance_of files) (macros c) (seen_at old was.top.work c) (phase.came c) (length (tokens_from old was phase.next c)) start (scanning out work) left
+          → length work ≤ left → out ≡ start ++ seen_at now own c → Puts files macros old was phase.at now own c
+      puts-by _ work left (away not p same next) few is =
+          spans.passed (missed c listed live not) (none-found (seen_hidden now.names now.hides) (items_at now.sets own c) (append_cancel_left start (seen_at now own c) [] (sym is ∙ sym (append-nil start))))
+      puts-by _ work left (passed {done = done} u came p run long same) few is =
+          spans.comes (comes-by files macros old was phase.at c (phase.has c listed came) p (long ∙ ap (λ k. length (tokens_from old was k c)) one) run) (append_cancel_left start (seen_at now own c) done (sym is))
+      puts-by out work left (inside w) few is = absurd (within-more (provenance_of files) (macros c) (seen_at old was.top.work c) (phase.came c) (length (tokens_from old was phase.next c)) start left out work w few)
+
+      puts-own : Puts files macros old was phase.at now own c
+      puts-own = let count = count-is c in puts-by (seen_at now e.top.out c) (seen_at now e.top.work c) (last_at now e phase.n c) (place-is c listed live) (omega (arith, count)) parts
+
+    closed : Segments files macros old was now phase.next (put_out e)
+    closed = by phase.begins
+      where
+        by : Begins files macros old now was e phase.came phase.at phase.next → Segments files macros old was now phase.next (put_out e)
+        by (at_start is_start none_came empty) = record { segments = []; many = sym is_start; is = empty; each = λ index part found. absurd (cc) }
+        by (at_item one missed) =
+            let next : suc phase.at ≡ phase.next = omega (arith, one) in
+            subst (λ (z : ℕ × List (Cond × Hidden)). Segments files macros old was now z.0 z.1) (λ i. (next i, take-append-drop phase.outs (put_out e) i))
+            (segments-one files macros old now was phase.at (take phase.outs (put_out e)) (drop phase.outs (put_out e)) phase.before (λ c listed live settles.
+            elim (settles-on c listed live settles) [ inl here ↦ puts-own one missed c listed here | inr waits ↦ (phase.waits c listed waits).puts ]))
+
+    -- no configuration comes to an item between the phase's and those that are left
+    quiet : (c : List ℕ) → IsConfig old.sets.arities c → old.sets.has was.refusals.live.0 c ≡ true → Settling files macros old was c → (index : ℕ) → phase.next ≤ index → index < length was.top.work - length e.top.work
+        → Comes files macros old was index c → ⊥
+    quiet c listed asks settles index le less x = elim (settles-on c listed asks settles) [
+      | inl live ↦
+          let many = come-many files macros old was index c x in
+          let before = from-later old was c phase.next index le in
+          let behind = from-later old was c (index + 1) (length was.top.work - length e.top.work) (omega (arith, less)) in
+          let far = (stands c listed live).1.most x.before (seen_hidden old.names old.hides x.item.1 ∷ tokens_from old was (index + 1) c) x.passes (omega (arith, many, before)) in
+          absurd (omega (arith, far, left-few c listed live, behind))
+      | inr waits ↦ (phase.waits c listed waits).last index le x
+    ]
+
+    -- what was put out is that of all items before those that are left
+    pub phase-segments : Segments files macros old was now (length was.top.work - length e.top.work) (put_out e)
+    phase-segments =
+        let most = phase.most in
+        segments-more files macros old now was (length was.top.work - length e.top.work - phase.next) phase.next (length was.top.work - length e.top.work) (put_out e) (omega (arith, most, near)) closed quiet
+
+  -- at the end it is that of all
+  pub run-segments : Phase files macros old now was e → HasEnded e → Segments files macros old was now (length was.top.work) e.top.out
+  run-segments phase ended =
+      let empty = ap length ended.work in
+      let near : length e.top.work ≤ phase.n = omega (arith, empty) in
+      let all : length was.top.work - length e.top.work ≡ length was.top.work = omega (arith, empty) in
+      let out = out-is phase ended.below ended.calls near in
+      subst (λ (z : ℕ × List (Cond × Hidden)). Segments files macros old was now z.0 z.1) (λ i. (all i, out i)) (phase-segments phase ended.below ended.calls near)
