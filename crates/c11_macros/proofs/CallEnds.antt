@@ -1,5 +1,5 @@
 -- What a call leaves is the end of its list.
-use Rattle.std.proofs.Common.{◌≡◌, ℕ, zero, suc, Bool, true, false, List, [], ◌∷◌, ◌++◌, length, codes, Option, Some, None, refl, ap, subst, if◌then◌else◌}
+use Rattle.std.proofs.Common.{◌≡◌, ℕ, zero, suc, Bool, true, false, List, [], ◌∷◌, ◌++◌, length, codes, Option, Some, None, refl, ap, subst, if◌then◌else◌, is_some}
 use Rattle.c11_macros.specs.Call.{Call, Role, apart, arguments_for, call_of, call_step, closing, comma, onto, onto_argument, opening, other, role_of}
 use Rattle.c11_macros.specs.Expansion.{Case, call_case, called, case_of, defined_case, fitted_case, form_case, is_looked_up, looked_up_case, misfit, replaced, stays, unclosed}
 use Rattle.c11_macros.specs.Hidden.{Hidden}
@@ -70,8 +70,8 @@ module _ {P : Type 0} where
   form-in d (function_like ps v) [] = in_stays
   form-in d (function_like ps v) (u ∷ us) = by (same_bytes u.spelling (codes "("))
     where
-      by : (b : Bool) → CaseIn (u ∷ us) (if b then call_case d ps v (call_of (length ps) zero us) else stays)
-      by true = opened-in d ps v u us
+      by : (b : Bool) → CaseIn (u ∷ us) (if b then call_case d ps (is_some v) (call_of (length ps) zero us) else stays)
+      by true = opened-in d ps (is_some v) u us
       by false = in_stays
 
   defined-in : (o : Option Definition) (rest : List (Hidden P)) → CaseIn rest (defined_case o rest)

@@ -1,7 +1,7 @@
 -- Calls and substitutions, computed on examples (C11 6.10.3.5).
-use Rattle.std.proofs.Common.{◌≡◌, ℕ, Bool, true, false, List, [], ◌∷◌, map, take, Option, Some, None, Result, Ok, Err, codes, refl, if◌then◌else◌}
+use Rattle.std.proofs.Common.{◌≡◌, ℕ, Bool, true, false, List, [], ◌∷◌, ◌++◌, map, take, Option, Some, None, Result, Ok, Err, codes, refl, if◌then◌else◌}
 use Rattle.c11_macros.specs.Call.{call_of, arguments_for}
-use Rattle.c11_macros.specs.Defines.{Defined, reads}
+use Rattle.c11_macros.specs.Defines.{Defined, reads, rest_named}
 use Rattle.c11_macros.specs.Expansion as expansion
 use Rattle.c11_macros.specs.Expansion.{Expands, asked, empty, stay, none, next, on}
 use Rattle.c11_macros.specs.Footprint.{Footprint, footprint}
@@ -16,6 +16,7 @@ use Rattle.sc_model.specs.declared.cause.Cause.TheVariants.{BadDefine, Protected
 use Rattle.sc_model.specs.declared.kind.Kind.{Kind}
 use Rattle.sc_model.specs.declared.kind.Kind.TheVariants.{Other}
 use Rattle.sc_model.specs.Token.{Place, Token}
+use Rattle.sc_model.specs.declared.standard.Standard.TheVariants.{C11, C23, Gnu11}
 use Rattle.std.specs.Prelude.{unwrap_or}
 
 place : ℕ → Place
@@ -50,12 +51,12 @@ abbrev xyz : List (List ℕ)
 xyz = codes "x" ∷ codes "y" ∷ codes "z" ∷ []
 
 -- #x, of B that would expand to 1
-literal-of-the_argument : shown (substituted provenance (function_like x false) (item false (codes "#") ∷ item false (codes "x") ∷ []) head ((at 5 true (codes "B") ∷ []) ∷ []) ((at 5 true (codes "1") ∷ []) ∷ []) no_names)
+literal-of-the_argument : shown (substituted provenance (function_like x None) (item false (codes "#") ∷ item false (codes "x") ∷ []) head ((at 5 true (codes "B") ∷ []) ∷ []) ((at 5 true (codes "1") ∷ []) ∷ []) no_names)
     ≡ Some ((codes "\"B\"", true) ∷ [])
 literal-of-the_argument = refl
 
 -- a string literal within another, and white space in one place
-literal-escaped : shown (substituted provenance (function_like x false) (item false (codes "#") ∷ item false (codes "x") ∷ []) head ((at 5 false (codes "a") ∷ at 6 true (codes "+") ∷ at 7 false (codes "\"b\\n\"") ∷ []) ∷ []) [] no_names)
+literal-escaped : shown (substituted provenance (function_like x None) (item false (codes "#") ∷ item false (codes "x") ∷ []) head ((at 5 false (codes "a") ∷ at 6 true (codes "+") ∷ at 7 false (codes "\"b\\n\"") ∷ []) ∷ []) [] no_names)
     ≡ Some ((codes "\"a +\\\"b\\\\n\\\"\"", true) ∷ [])
 literal-escaped = refl
 
@@ -66,19 +67,19 @@ hash_hash = refl
 abbrev xyz_list : List Item
 xyz_list = item false (codes "x") ∷ item true (codes "##") ∷ item true (codes "y") ∷ item true (codes "##") ∷ item true (codes "z") ∷ []
 
-pasted-three : shown (substituted provenance (function_like xyz false) xyz_list head ((at 1 false (codes "1") ∷ []) ∷ (at 2 false (codes "2") ∷ []) ∷ (at 3 false (codes "3") ∷ []) ∷ []) [] no_names) ≡ Some ((codes "123", true) ∷ [])
+pasted-three : shown (substituted provenance (function_like xyz None) xyz_list head ((at 1 false (codes "1") ∷ []) ∷ (at 2 false (codes "2") ∷ []) ∷ (at 3 false (codes "3") ∷ []) ∷ []) [] no_names) ≡ Some ((codes "123", true) ∷ [])
 pasted-three = refl
 
-pasted-last_two : shown (substituted provenance (function_like xyz false) xyz_list head ([] ∷ (at 2 false (codes "4") ∷ []) ∷ (at 3 false (codes "5") ∷ []) ∷ []) [] no_names) ≡ Some ((codes "45", true) ∷ [])
+pasted-last_two : shown (substituted provenance (function_like xyz None) xyz_list head ([] ∷ (at 2 false (codes "4") ∷ []) ∷ (at 3 false (codes "5") ∷ []) ∷ []) [] no_names) ≡ Some ((codes "45", true) ∷ [])
 pasted-last_two = refl
 
-pasted-nothing : shown (substituted provenance (function_like xyz false) xyz_list head ([] ∷ [] ∷ [] ∷ []) [] no_names) ≡ Some []
+pasted-nothing : shown (substituted provenance (function_like xyz None) xyz_list head ([] ∷ [] ∷ [] ∷ []) [] no_names) ≡ Some []
 pasted-nothing = refl
 
-pasted-no_token : substituted provenance (function_like xyz false) xyz_list head ((at 1 false (codes "1") ∷ []) ∷ (at 2 false (codes "+") ∷ []) ∷ [] ∷ []) [] no_names ≡ Err (record { cause = BadPaste; place = 0 })
+pasted-no_token : substituted provenance (function_like xyz None) xyz_list head ((at 1 false (codes "1") ∷ []) ∷ (at 2 false (codes "+") ∷ []) ∷ [] ∷ []) [] no_names ≡ Err (record { cause = BadPaste; place = 0 })
 pasted-no_token = refl
 
-stringized-no_literal : substituted provenance (function_like x false) (item false (codes "#") ∷ item false (codes "x") ∷ []) head ((at 5 false (codes "\\") ∷ []) ∷ []) [] no_names ≡ Err (record { cause = BadStringize; place = 0 })
+stringized-no_literal : substituted provenance (function_like x None) (item false (codes "#") ∷ item false (codes "x") ∷ []) head ((at 5 false (codes "\\") ∷ []) ∷ []) [] no_names ≡ Err (record { cause = BadStringize; place = 0 })
 stringized-no_literal = refl
 
 -- a ## behind an operator is its operand
@@ -86,18 +87,18 @@ paste-operand : shown (substituted provenance object_like (item false (codes "#"
 paste-operand = refl
 
 -- x##x of an empty argument, and an argument that expands in one place alone
-wants-beside : wanted_of (function_like x false) (item false (codes "x") ∷ item false (codes "##") ∷ item false (codes "x") ∷ []) ≡ []
+wants-beside : wanted_of (function_like x None) (item false (codes "x") ∷ item false (codes "##") ∷ item false (codes "x") ∷ []) ≡ []
 wants-beside = refl
 
-wants-elsewhere : wanted_of (function_like x false) (item false (codes "#") ∷ item false (codes "x") ∷ item false (codes "x") ∷ []) ≡ 0 ∷ []
+wants-elsewhere : wanted_of (function_like x None) (item false (codes "#") ∷ item false (codes "x") ∷ item false (codes "x") ∷ []) ≡ 0 ∷ []
 wants-elsewhere = refl
 
 -- of z x y x each once, in the order of the list
-wants-in_order : wanted_of (function_like xyz false) (item false (codes "z") ∷ item false (codes "x") ∷ item false (codes "y") ∷ item false (codes "x") ∷ []) ≡ 2 ∷ 0 ∷ 1 ∷ []
+wants-in_order : wanted_of (function_like xyz None) (item false (codes "z") ∷ item false (codes "x") ∷ item false (codes "y") ∷ item false (codes "x") ∷ []) ≡ 2 ∷ 0 ∷ 1 ∷ []
 wants-in_order = refl
 
 -- #x y, where #x fails: y is not expanded
-asks-nothing : asked provenance (record { form = function_like xyz false; replacement = items (item false (codes "#") ∷ item false (codes "x") ∷ item true (codes "y") ∷ []) }) head
+asks-nothing : asked provenance (record { form = function_like xyz None; replacement = items (item false (codes "#") ∷ item false (codes "x") ∷ item true (codes "y") ∷ []) }) head
     ((at 5 false (codes "\\") ∷ []) ∷ (at 6 false (codes "V") ∷ []) ∷ [] ∷ []) ≡ []
 asks-nothing = refl
 
@@ -134,6 +135,33 @@ fits-variadic = refl
 fits-not_two : arguments_for {A = ℕ} x false ([] ∷ [] ∷ []) ≡ None
 fits-not_two = refl
 
+-- ---- a comma, ## and the rest: x , ## r
+
+abbrev comma_list : List Item
+comma_list = item false (codes "x") ∷ item false (codes ",") ∷ item true (codes "##") ∷ item true (codes "r") ∷ []
+
+abbrev gnu_form : Form
+gnu_form = function_like x (rest_named Gnu11 (codes "r"))
+
+comma-deleted : shown (substituted provenance gnu_form comma_list head ((at 1 false (codes "1") ∷ []) ∷ [] ∷ []) ((at 1 false (codes "1") ∷ []) ∷ [] ∷ []) no_names) ≡ Some ((codes "1", true) ∷ [])
+comma-deleted = refl
+
+-- R that expands to 2
+comma-expanded : shown (substituted provenance gnu_form comma_list head ((at 1 false (codes "1") ∷ []) ∷ (at 2 false (codes "R") ∷ []) ∷ []) ((at 1 false (codes "1") ∷ []) ∷ (at 2 false (codes "2") ∷ []) ∷ []) no_names)
+    ≡ Some ((codes "1", true) ∷ (codes ",", false) ∷ (codes "2", true) ∷ [])
+comma-expanded = refl
+
+comma-wants : wanted_of gnu_form comma_list ≡ 0 ∷ 1 ∷ []
+comma-wants = refl
+
+-- in C11 the comma is pasted
+comma-pasted : shown (substituted provenance (function_like x (rest_named C11 (codes "r"))) comma_list head ((at 1 false (codes "1") ∷ []) ∷ [] ∷ []) ((at 1 false (codes "1") ∷ []) ∷ [] ∷ []) no_names)
+    ≡ Some ((codes "1", true) ∷ (codes ",", false) ∷ [])
+comma-pasted = refl
+
+comma-with_paste : shown (substituted provenance gnu_form (comma_list ++ item true (codes "##") ∷ item true (codes "y") ∷ []) head ((at 1 false (codes "1") ∷ []) ∷ [] ∷ []) ((at 1 false (codes "1") ∷ []) ∷ [] ∷ []) no_names) ≡ None
+comma-with_paste = refl
+
 -- ---- lines that define
 
 abbrev token : Bool → List ℕ → Token
@@ -144,32 +172,48 @@ name_and_form (Ok d) = Ok (d.name, d.definition.form)
 name_and_form (Err cause) = Err cause
 
 -- f(a, ...) and f (a)
-reads-variadic : name_and_form (reads (token true (codes "f") ∷ token false (codes "(") ∷ token false (codes "a") ∷ token false (codes ",") ∷ token true (codes "...") ∷ token false (codes ")") ∷ token true (codes "__VA_ARGS__") ∷ []))
-    ≡ Ok (codes "f", function_like (codes "a" ∷ []) true)
+reads-variadic : name_and_form (reads C11 (token true (codes "f") ∷ token false (codes "(") ∷ token false (codes "a") ∷ token false (codes ",") ∷ token true (codes "...") ∷ token false (codes ")") ∷ token true (codes "__VA_ARGS__") ∷ []))
+    ≡ Ok (codes "f", function_like (codes "a" ∷ []) (rest_named C11 (codes "__VA_ARGS__")))
 reads-variadic = refl
 
-reads-object : name_and_form (reads (token true (codes "f") ∷ token true (codes "(") ∷ token false (codes "a") ∷ token false (codes ")") ∷ [])) ≡ Ok (codes "f", object_like)
+-- f(a, r...) in gnu11 and in C11
+abbrev named_rest : List Token
+named_rest = token true (codes "f") ∷ token false (codes "(") ∷ token false (codes "a") ∷ token false (codes ",") ∷ token true (codes "r") ∷ token false (codes "...") ∷ token false (codes ")") ∷ token true (codes "r") ∷ []
+
+reads-named : name_and_form (reads Gnu11 named_rest) ≡ Ok (codes "f", function_like (codes "a" ∷ []) (rest_named Gnu11 (codes "r")))
+reads-named = refl
+
+reads-named_in_c11 : reads C11 named_rest ≡ Err BadDefine
+reads-named_in_c11 = refl
+
+reads-named_in_c23 : reads C23 named_rest ≡ Err BadDefine
+reads-named_in_c23 = refl
+
+reads-named_beside_dots : reads Gnu11 (token true (codes "f") ∷ token false (codes "(") ∷ token false (codes "r") ∷ token false (codes "...") ∷ token false (codes ")") ∷ token true (codes "__VA_ARGS__") ∷ []) ≡ Err BadDefine
+reads-named_beside_dots = refl
+
+reads-object : name_and_form (reads C11 (token true (codes "f") ∷ token true (codes "(") ∷ token false (codes "a") ∷ token false (codes ")") ∷ [])) ≡ Ok (codes "f", object_like)
 reads-object = refl
 
-reads-repeated : reads (token true (codes "f") ∷ token false (codes "(") ∷ token false (codes "a") ∷ token false (codes ",") ∷ token true (codes "a") ∷ token false (codes ")") ∷ []) ≡ Err BadDefine
+reads-repeated : reads C11 (token true (codes "f") ∷ token false (codes "(") ∷ token false (codes "a") ∷ token false (codes ",") ∷ token true (codes "a") ∷ token false (codes ")") ∷ []) ≡ Err BadDefine
 reads-repeated = refl
 
-reads-early_end : reads (token true (codes "f") ∷ token false (codes "(") ∷ token false (codes "a") ∷ []) ≡ Err BadDefine
+reads-early_end : reads C11 (token true (codes "f") ∷ token false (codes "(") ∷ token false (codes "a") ∷ []) ≡ Err BadDefine
 reads-early_end = refl
 
-reads-lone_hash : reads (token true (codes "f") ∷ token false (codes "(") ∷ token false (codes ")") ∷ token true (codes "#") ∷ []) ≡ Err BadDefine
+reads-lone_hash : reads C11 (token true (codes "f") ∷ token false (codes "(") ∷ token false (codes ")") ∷ token true (codes "#") ∷ []) ≡ Err BadDefine
 reads-lone_hash = refl
 
-reads-hash_of_object : name_and_form (reads (token true (codes "f") ∷ token true (codes "#") ∷ [])) ≡ Ok (codes "f", object_like)
+reads-hash_of_object : name_and_form (reads C11 (token true (codes "f") ∷ token true (codes "#") ∷ [])) ≡ Ok (codes "f", object_like)
 reads-hash_of_object = refl
 
-reads-paste_at_end : reads (token true (codes "f") ∷ token true (codes "a") ∷ token true (codes "%:%:") ∷ []) ≡ Err BadDefine
+reads-paste_at_end : reads C11 (token true (codes "f") ∷ token true (codes "a") ∷ token true (codes "%:%:") ∷ []) ≡ Err BadDefine
 reads-paste_at_end = refl
 
-reads-protected : reads (token true (codes "__VA_ARGS__") ∷ token true (codes "x") ∷ []) ≡ Err ProtectedName
+reads-protected : reads C11 (token true (codes "__VA_ARGS__") ∷ token true (codes "x") ∷ []) ≡ Err ProtectedName
 reads-protected = refl
 
-reads-no_name : reads (token true (codes "1") ∷ []) ≡ Err BadDefine
+reads-no_name : reads C11 (token true (codes "1") ∷ []) ≡ Err BadDefine
 reads-no_name = refl
 
 -- ---- the footprint of a name
@@ -177,8 +221,8 @@ reads-no_name = refl
 -- #define f(x) g and #define g(y) y
 abbrev table : Macros
 table name =
-    if same_bytes name (codes "f") then Some (record { form = function_like x false; replacement = items (item false (codes "g") ∷ []) })
-    else (if same_bytes name (codes "g") then Some (record { form = function_like (codes "y" ∷ []) false; replacement = items (item false (codes "y") ∷ []) })
+    if same_bytes name (codes "f") then Some (record { form = function_like x None; replacement = items (item false (codes "g") ∷ []) })
+    else (if same_bytes name (codes "g") then Some (record { form = function_like (codes "y" ∷ []) None; replacement = items (item false (codes "y") ∷ []) })
     else None)
 
 -- f(1)(2);

@@ -8,7 +8,7 @@ use Rattle.std.specs.List.{list_any}
 use Rattle.c11_macros.specs.Expansion.{Case, stays, replaced, unclosed, misfit, called, case_of, list_of, asked, object_result, call_result, with_first, Expands, empty, stay, object, unterminated, miscounted, call, Each, none, next, stops, Rescans, on, refused, IsWithin}
 use Rattle.c11_macros.specs.Hidden.{Hidden, HideSet, Provenance, Failure, failure_at, with_name, meet}
 use Rattle.c11_macros.specs.Macros.{Macros, Definition}
-use Rattle.c11_macros.specs.Substitution.{argument, neither, parts, slots, wanted_of}
+use Rattle.c11_macros.specs.Substitution.{argument, list_slots, wanted_of}
 use Rattle.c11_macros.proofs.Rows.{Cuts, uncut, cut, Fit, Row, AtMost, Sorted, is_cut, HasAll, kept, at_most-more, has-kept, has-more, has-meet, not-cut, Covered, object-covers, call-covers, row-replaced, AllRows, CaseRow, sound}
 use Rattle.sc_model.proofs.ByteLemmas.{same_bytes-refl, same_bytes-true}
 use Rattle.sc_model.specs.Bytes.{same_bytes}
@@ -125,7 +125,7 @@ module _ {P : Type 0} (provenance : Provenance P) (macros : Macros) (names : Lis
       by (Err failure) d others = (Err failure, stops failure d)
 
   asked-halts : (d : Definition) (t : Hidden P) (arguments lists : List (List (Hidden P))) → ((n : ℕ) → Halts (argument arguments n)) → (r : Lists) × Each provenance macros (asked provenance d t arguments) lists r
-  asked-halts d t arguments lists halts = by (is_ok (slots t arguments (parts d.form neither (list_of provenance d t))))
+  asked-halts d t arguments lists halts = by (is_ok (list_slots t arguments d.form (list_of provenance d t)))
     where
       by : (b : Bool) → (r : Lists) × Each provenance macros (if b then map (λ n. (n, argument arguments n)) (wanted_of d.form (list_of provenance d t)) else []) lists r
       by true = each-halts arguments (wanted_of d.form (list_of provenance d t)) lists halts

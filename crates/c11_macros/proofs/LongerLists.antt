@@ -1,5 +1,5 @@
 -- The case at a token, as more follows the list.
-use Rattle.std.proofs.Common.{◌≡◌, ℕ, zero, suc, ◌&&◌, Bool, true, false, List, [], ◌∷◌, ◌++◌, length, codes, Option, Some, None, refl, subst, if◌then◌else◌}
+use Rattle.std.proofs.Common.{◌≡◌, ℕ, zero, suc, ◌&&◌, Bool, true, false, List, [], ◌∷◌, ◌++◌, length, codes, Option, Some, None, refl, subst, if◌then◌else◌, is_some}
 use Rattle.c11_macros.proofs.CallEnds.{EndsWith, Ends, no_call, a_call, in-call}
 use Rattle.c11_macros.specs.Call.{Call, Role, apart, arguments_for, call_of, call_step, closing, comma, onto, onto_argument, opening, other, role_of}
 use Rattle.c11_macros.specs.Defines.{is_function_like}
@@ -76,8 +76,8 @@ module _ {P : Type 0} (more : List (Hidden P)) where
     form-more (function_like ps variadic) [] = at_end (form_case d (function_like ps variadic) more)
     form-more (function_like ps variadic) (u ∷ us) = by (same_bytes u.spelling (codes "("))
       where
-        by : (b : Bool) → CaseMore more (u ∷ us) (if b then call_case d ps variadic (call_of (length ps) zero us) else stays) (if b then call_case d ps variadic (call_of (length ps) zero (us ++ more)) else stays)
-        by true = call_case-more (u ∷ us) ps variadic (call_of (length ps) zero us) (call_of (length ps) zero (us ++ more)) (call-more (length ps) zero us)
+        by : (b : Bool) → CaseMore more (u ∷ us) (if b then call_case d ps (is_some variadic) (call_of (length ps) zero us) else stays) (if b then call_case d ps (is_some variadic) (call_of (length ps) zero (us ++ more)) else stays)
+        by true = call_case-more (u ∷ us) ps (is_some variadic) (call_of (length ps) zero us) (call_of (length ps) zero (us ++ more)) (call-more (length ps) zero us)
         by false = same_stays (u ∷ us)
 
   case-more : (macros : Macros) (t : Hidden P) (rest : List (Hidden P)) → CaseMore more rest (case_of macros t rest) (case_of macros t (rest ++ more))

@@ -1,14 +1,14 @@
 -- Lists of tokens of which those far from the end hide names, and what a call and a replacement
 -- make of such a list.
-use Rattle.std.proofs.Common.{◌≡◌, ℕ, zero, suc, ◌<◌, ◌≤◌, ◌&&◌, ◌||◌, ◌==◌, ◌+◌, not, nat_le, Bool, true, false, List, [], ◌∷◌, ◌++◌, length, codes, Option, Some, None, Result, Ok, Err, refl, sym, ap, ◌∙◌, arith, if◌then◌else◌}
+use Rattle.std.proofs.Common.{◌≡◌, ℕ, zero, suc, ◌<◌, ◌≤◌, ◌&&◌, ◌||◌, ◌==◌, ◌+◌, not, nat_le, Bool, true, false, List, [], ◌∷◌, ◌++◌, length, codes, Option, Some, None, Result, Ok, Err, refl, sym, ap, ◌∙◌, arith, if◌then◌else◌, is_some}
 use Rattle.std.proofs.lemmas.Bool.{leb-true, and_parts, true≢false}
-use Rattle.c11_macros.specs.Call.{Call, Role, opening, closing, comma, other, role_of, onto_argument, onto, apart, call_step, call_of, counts, is_nothing, given, filled_up}
+use Rattle.c11_macros.specs.Call.{Call, Role, opening, closing, comma, other, role_of, onto_argument, onto, apart, call_step, call_of, counts_for, is_nothing, given, filled_up}
 use Rattle.c11_macros.specs.Expansion.{Case, stays, replaced, unclosed, misfit, called, is_looked_up, fitted_case, call_case, form_case, defined_case, looked_up_case, case_of, list_of, object_result, call_result}
 use Rattle.c11_macros.specs.Hidden.{Hidden, HideSet, Provenance, Failure, with_name, meet}
 use Rattle.c11_macros.specs.Macros.{Macros, Definition, Form, object_like, function_like}
 use Rattle.sc_model.specs.Token.{Item}
 use Rattle.c11_macros.specs.Results.{result_map, result_and_then}
-use Rattle.c11_macros.specs.Substitution.{Piece, parts, neither, slots, filled, all_glued, hiding, substituted, with_space, tokens_of, Slot, put_together}
+use Rattle.c11_macros.specs.Substitution.{Piece, Slot, all_glued, filled, hiding, list_slots, put_together, substituted, tokens_of, with_space}
 use Rattle.c11_tokens.specs.Lex.{is_identifier_kind}
 use Rattle.sc_model.proofs.ByteLemmas.{same_bytes-true}
 use Rattle.sc_model.specs.Bytes.{same_bytes}
@@ -129,7 +129,7 @@ made-covers provenance set space (Err failure) = tt
 
 substituted-covers : {P : Type 0} (provenance : Provenance P) (form : Form) (items : List Item) (t : Hidden P) (raw expanded : List (List (Hidden P))) (set : HideSet)
     → Covered set (substituted provenance form items t raw expanded set)
-substituted-covers {P} provenance form items t raw expanded set = by (slots t raw (parts form neither items))
+substituted-covers {P} provenance form items t raw expanded set = by (list_slots t raw form items)
   where
     by : (made : Result (List (Slot P)) (Failure P)) → Covered set (result_and_then (put_together provenance t raw expanded set) made)
     by (Ok ss) = made-covers provenance set t.space (all_glued t (filled raw expanded false ss))
@@ -241,7 +241,7 @@ CaseRow macros c t n (called d arguments close after) =
 module _ {P : Type 0} (macros : Macros) (c : Cuts) (t : Hidden P) (free : t.hide t.spelling ≡ false) (d : Definition) (defined : macros t.spelling ≡ Some d) where
   call-row : (n : ℕ) (parameters : List (List ℕ)) (variadic : Bool) (o : Option (Call P)) → Inside c n o → CaseRow macros c t (suc n) (call_case d parameters variadic o)
   call-row n parameters variadic None within = tt
-  call-row n parameters variadic (Some call) within = by (counts (function_like parameters variadic) (length (given parameters variadic call.arguments)))
+  call-row n parameters variadic (Some call) within = by (counts_for parameters variadic (length (given parameters variadic call.arguments)))
     where
       rows : AllRows c (suc n) (filled_up parameters variadic (given parameters variadic call.arguments))
       rows = rows-filled c (suc n) parameters variadic (given parameters variadic call.arguments) (rows-given c (suc n) parameters variadic call.arguments (rows-more c n (suc n) call.arguments (omega arith) within.arguments))
@@ -255,8 +255,8 @@ module _ {P : Type 0} (macros : Macros) (c : Cuts) (t : Hidden P) (free : t.hide
   form-row (function_like parameters variadic) [] row = tt
   form-row (function_like parameters variadic) (u ∷ us) row = by (same_bytes u.spelling (codes "("))
     where
-      by : (b : Bool) → CaseRow macros c t (suc (length us)) (if b then call_case d parameters variadic (call_of (length parameters) zero us) else stays)
-      by true = call-row (length us) parameters variadic (call_of (length parameters) zero us) (inside c (length parameters) zero us row.1)
+      by : (b : Bool) → CaseRow macros c t (suc (length us)) (if b then call_case d parameters (is_some variadic) (call_of (length parameters) zero us) else stays)
+      by true = call-row (length us) parameters (is_some variadic) (call_of (length parameters) zero us) (inside c (length parameters) zero us row.1)
       by false = tt
 
 not-false : (b : Bool) → not b ≡ true → b ≡ false

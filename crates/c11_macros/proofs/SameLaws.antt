@@ -1,8 +1,8 @@
 -- Two definitions pass the test just where they are equal.
-use Rattle.std.proofs.Common.{◌≡◌, ℕ, ◌==◌, ◌&&◌, not, Bool, true, false, List, [], ◌∷◌, refl, sym, ap, ◌∙◌, eqb-true, eq-eqb, if◌then◌else◌}
-use Rattle.c11_macros.specs.Macros.{Form, object_like, function_like, Replacement, items, file_name, line_number, Definition}
+use Rattle.std.proofs.Common.{◌≡◌, ℕ, ◌==◌, ◌&&◌, not, Bool, true, false, List, [], ◌∷◌, Option, Some, None, refl, sym, ap, ◌∙◌, eqb-true, eq-eqb, if◌then◌else◌}
+use Rattle.c11_macros.specs.Macros.{Form, object_like, function_like, Replacement, items, file_name, line_number, Definition, Rest}
 use Rattle.sc_model.specs.Token.{Item}
-use Rattle.c11_macros.specs.Same.{kind_number, same_test, same_lists, same_item, same_form, same_replacement, same_definition}
+use Rattle.c11_macros.specs.Same.{kind_number, same_test, same_lists, same_item, same_rest, same_form, same_replacement, same_definition}
 use Rattle.sc_model.specs.declared.kind.Kind.{Kind}
 use Rattle.sc_model.specs.declared.kind.Kind.TheVariants.{Identifier, Number, Character, Text, Header, Punctuator, Other, Newline}
 use Rattle.sc_model.specs.Bytes.{same_bytes}
@@ -76,19 +76,33 @@ same_item-true a b h =
 same_item-refl : (a : Item) → same_item a a ≡ true
 same_item-refl a = and-join (eq-eqb (kind_number a.kind) (kind_number a.kind) refl) (and-join (same_bytes-refl a.spelling) (same_test-refl a.space))
 
+same_rest-true : (a b : Option Rest) → same_rest a b ≡ true → a ≡ b
+same_rest-true None None h = refl
+same_rest-true None (Some s) h = cc
+same_rest-true (Some r) None h = cc
+same_rest-true (Some r) (Some s) h =
+    let parts = and-both (same_bytes r.name s.name) (same_test r.deletes_comma s.deletes_comma) h in
+    let names = same_bytes-true r.name s.name parts.0 in
+    let deletes = same_test-true r.deletes_comma s.deletes_comma parts.1 in
+    λ i. Some (record { name = names i; deletes_comma = deletes i })
+
+same_rest-refl : (a : Option Rest) → same_rest a a ≡ true
+same_rest-refl None = refl
+same_rest-refl (Some r) = and-join (same_bytes-refl r.name) (same_test-refl r.deletes_comma)
+
 same_form-true : (a b : Form) → same_form a b ≡ true → a ≡ b
 same_form-true object_like object_like h = refl
 same_form-true object_like (function_like qs w) h = cc
 same_form-true (function_like ps v) object_like h = cc
 same_form-true (function_like ps v) (function_like qs w) h =
-    let parts = and-both (same_lists same_bytes ps qs) (same_test v w) h in
+    let parts = and-both (same_lists same_bytes ps qs) (same_rest v w) h in
     let parameters = same_lists-true same_bytes same_bytes-true ps qs parts.0 in
-    let variadic = same_test-true v w parts.1 in
-    cc
+    let rests = same_rest-true v w parts.1 in
+    λ i. function_like (parameters i) (rests i)
 
 same_form-refl : (a : Form) → same_form a a ≡ true
 same_form-refl object_like = refl
-same_form-refl (function_like ps v) = and-join (same_lists-refl same_bytes same_bytes-refl ps) (same_test-refl v)
+same_form-refl (function_like ps v) = and-join (same_lists-refl same_bytes same_bytes-refl ps) (same_rest-refl v)
 
 same_replacement-true : (a b : Replacement) → same_replacement a b ≡ true → a ≡ b
 same_replacement-true (items a) (items b) h = ap items (same_lists-true same_item same_item-true a b h)

@@ -1,6 +1,6 @@
 -- The call of a function-like macro: what stands between its parentheses (C11 6.10.3p10 to p12,
 -- 6.10.3.1).
-use Rattle.std.specs.Prelude.{ℕ, zero, suc, ◌+◌, ◌==◌, ◌&&◌, ◌||◌, Bool, true, false, List, [], ◌∷◌, ◌++◌, length, codes, Option, Some, None, if◌then◌else◌}
+use Rattle.std.specs.Prelude.{ℕ, zero, suc, ◌+◌, ◌==◌, ◌&&◌, ◌||◌, Bool, true, false, List, [], ◌∷◌, ◌++◌, length, codes, Option, Some, None, is_some, if◌then◌else◌}
 use Rattle.c11_macros.specs.Hidden.{Hidden}
 use Rattle.c11_macros.specs.Macros.{Form, object_like, function_like}
 use Rattle.sc_model.specs.Bytes.{same_bytes}
@@ -55,10 +55,13 @@ abbrev pub call_of : {P : Type 0} → ℕ → ℕ → List (Hidden P) → Option
 call_of commas depth [] = None
 call_of commas depth (t ∷ ts) = call_step (role_of t.spelling) commas depth t ts (λ c d. call_of c d ts)
 
--- so many arguments fit the macro; for ... none need be given (own)
+-- so many arguments fit the parameters; for the rest none need be given (own)
+abbrev pub counts_for : List (List ℕ) → Bool → ℕ → Bool
+counts_for parameters variadic n = n == length parameters || (variadic && n == length parameters + 1)
+
 abbrev pub counts : Form → ℕ → Bool
 counts object_like n = false
-counts (function_like parameters variadic) n = n == length parameters || (variadic && n == length parameters + 1)
+counts (function_like parameters rest) n = counts_for parameters (is_some rest) n
 
 -- nothing stands between the parentheses
 abbrev pub is_nothing : {A : Type 0} → List (List A) → Bool
@@ -70,12 +73,12 @@ abbrev pub given : {A : Type 0} → List (List ℕ) → Bool → List (List A) �
 given [] false arguments = if is_nothing arguments then [] else arguments
 given parameters variadic arguments = arguments
 
--- one argument for each parameter and for ..., which may be empty
+-- one argument for each parameter and for the rest, which may be empty
 abbrev pub filled_up : {A : Type 0} → List (List ℕ) → Bool → List (List A) → List (List A)
 filled_up parameters variadic arguments = if variadic && length arguments == length parameters then arguments ++ [] ∷ [] else arguments
 
 -- the arguments for the parameters, where so many fit
 abbrev pub arguments_for : {A : Type 0} → List (List ℕ) → Bool → List (List A) → Option (List (List A))
 arguments_for parameters variadic arguments =
-    if counts (function_like parameters variadic) (length (given parameters variadic arguments))
+    if counts_for parameters variadic (length (given parameters variadic arguments))
     then Some (filled_up parameters variadic (given parameters variadic arguments)) else None

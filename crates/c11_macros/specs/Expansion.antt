@@ -1,11 +1,11 @@
 -- Macro expansion (C11 6.10.3 and 6.10.3.4), by Prosser's algorithm.
-use Rattle.std.specs.Prelude.{◌≡◌, ℕ, zero, not, ◌&&◌, Bool, true, false, List, [], ◌∷◌, ◌++◌, map, length, codes, Option, Some, None, Result, Ok, Err, is_ok, slice_set, if◌then◌else◌}
+use Rattle.std.specs.Prelude.{◌≡◌, ℕ, zero, not, ◌&&◌, Bool, true, false, List, [], ◌∷◌, ◌++◌, map, length, codes, Option, Some, None, Result, Ok, Err, is_ok, is_some, slice_set, if◌then◌else◌}
 use Rattle.c11_macros.specs.Call.{Call, call_of, arguments_for}
 use Rattle.c11_macros.specs.Hidden.{Hidden, Provenance, Failure, failure_at, with_name, meet}
 use Rattle.c11_macros.specs.Macros.{Form, object_like, function_like, Definition, list_at, Macros}
 use Rattle.sc_model.specs.Token.{Item}
 use Rattle.c11_macros.specs.Results.{result_map, result_and_then}
-use Rattle.c11_macros.specs.Substitution.{argument, substituted, slots, parts, neither, wanted_of}
+use Rattle.c11_macros.specs.Substitution.{argument, substituted, list_slots, wanted_of}
 use Rattle.sc_model.specs.declared.cause.Cause.TheVariants.{UnterminatedCall, WrongArguments}
 use Rattle.c11_tokens.specs.Lex.{is_identifier_kind}
 use Rattle.std.specs.List.{list_any}
@@ -39,9 +39,9 @@ call_case d parameters variadic (Some call) = fitted_case d call.close call.rest
 
 abbrev pub form_case : {P : Type 0} → Definition → Form → List (Hidden P) → Case P
 form_case d object_like rest = replaced d
-form_case d (function_like parameters variadic) [] = stays
-form_case d (function_like parameters variadic) (t ∷ ts) =
-    if same_bytes t.spelling (codes "(") then call_case d parameters variadic (call_of (length parameters) zero ts) else stays
+form_case d (function_like parameters more) [] = stays
+form_case d (function_like parameters more) (t ∷ ts) =
+    if same_bytes t.spelling (codes "(") then call_case d parameters (is_some more) (call_of (length parameters) zero ts) else stays
 
 abbrev pub defined_case : {P : Type 0} → Option Definition → List (Hidden P) → Case P
 defined_case None rest = stays
@@ -64,7 +64,7 @@ list_of provenance d head = list_at d.replacement (provenance.place head.place)
 -- wants them. Where a # fails there are none, since the call fails before any expands.
 abbrev pub asked : {P : Type 0} → Provenance P → Definition → Hidden P → List (List (Hidden P)) → List (ℕ × List (Hidden P))
 asked provenance d head arguments =
-    if is_ok (slots head arguments (parts d.form neither (list_of provenance d head))) then map (λ n. (n, argument arguments n)) (wanted_of d.form (list_of provenance d head)) else []
+    if is_ok (list_slots head arguments d.form (list_of provenance d head)) then map (λ n. (n, argument arguments n)) (wanted_of d.form (list_of provenance d head)) else []
 
 -- an object-like macro's replacement
 abbrev pub object_result : {P : Type 0} → Provenance P → Definition → Hidden P → Result (List (Hidden P)) (Failure P)

@@ -8,11 +8,17 @@ use Rattle.sc_model.specs.Bytes.{has_no_newline, same_bytes}
 use Rattle.sc_model.specs.Space.{VariableOption, undefined, number, text, Variable, Space}
 use Rattle.sc_model.specs.Token.{Item, Place}
 
+-- The parameter of the arguments that are left (6.10.3p12): its name, and whether a comma before ##
+-- and it is deleted where it is empty (gcc's manual, Variadic Macros).
+pub record Rest : Type 0 where
+  pub name : List ℕ
+  pub deletes_comma : Bool
+
 -- a macro with arguments or without them (6.10.3p9, p10)
 pub data Form : Type 0 where
   object_like : Form
-  -- variadic where the parameters end with ...
-  function_like : (parameters : List (List ℕ)) → (variadic : Bool) → Form
+  -- variadic where there is a rest
+  function_like : (parameters : List (List ℕ)) → (rest : Option Rest) → Form
 
 -- a replacement list: that of the definition, or one that the place of the macro's name tells
 -- (6.10.8.1)

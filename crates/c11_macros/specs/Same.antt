@@ -1,6 +1,6 @@
 -- A test that two definitions are the same (C11 6.10.3p1, p2).
-use Rattle.std.specs.Prelude.{ℕ, ◌==◌, ◌&&◌, not, Bool, true, false, List, [], ◌∷◌}
-use Rattle.c11_macros.specs.Macros.{Form, object_like, function_like, Replacement, items, file_name, line_number, Definition}
+use Rattle.std.specs.Prelude.{ℕ, ◌==◌, ◌&&◌, not, Bool, true, false, List, [], ◌∷◌, Option, Some, None}
+use Rattle.c11_macros.specs.Macros.{Form, object_like, function_like, Replacement, items, file_name, line_number, Definition, Rest}
 use Rattle.sc_model.specs.Token.{Item}
 use Rattle.sc_model.specs.declared.kind.Kind.{Kind}
 use Rattle.sc_model.specs.declared.kind.Kind.TheVariants.{Identifier, Number, Character, Text, Header, Punctuator, Other, Newline}
@@ -29,11 +29,17 @@ same_lists same (x ∷ xs) (y ∷ ys) = same x y && same_lists same xs ys
 abbrev pub same_item : Item → Item → Bool
 same_item a b = (kind_number a.kind == kind_number b.kind) && (same_bytes a.spelling b.spelling && same_test a.space b.space)
 
+abbrev pub same_rest : Option Rest → Option Rest → Bool
+same_rest None None = true
+same_rest None (Some s) = false
+same_rest (Some r) None = false
+same_rest (Some r) (Some s) = same_bytes r.name s.name && same_test r.deletes_comma s.deletes_comma
+
 abbrev pub same_form : Form → Form → Bool
 same_form object_like object_like = true
-same_form object_like (function_like parameters variadic) = false
-same_form (function_like parameters variadic) object_like = false
-same_form (function_like parameters variadic) (function_like others other) = same_lists same_bytes parameters others && same_test variadic other
+same_form object_like (function_like parameters rest) = false
+same_form (function_like parameters rest) object_like = false
+same_form (function_like parameters rest) (function_like others other) = same_lists same_bytes parameters others && same_rest rest other
 
 abbrev pub same_replacement : Replacement → Replacement → Bool
 same_replacement (items a) (items b) = same_lists same_item a b

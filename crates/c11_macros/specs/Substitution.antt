@@ -1,9 +1,9 @@
 -- What a macro's replacement list becomes (C11 6.10.3.1 to 6.10.3.3): four steps, each over the
 -- whole list.
-use Rattle.std.specs.Prelude.{ℕ, ◌+◌, ◌==◌, ◌&&◌, ◌||◌, not, Bool, true, false, List, [], ◌∷◌, ◌++◌, map, filter, codes, Option, Some, None, is_some, Result, Ok, Err, slice_index_or, if◌then◌else◌}
+use Rattle.std.specs.Prelude.{ℕ, ◌+◌, ◌==◌, ◌&&◌, ◌||◌, not, Bool, true, false, List, [], ◌∷◌, ◌++◌, map, filter, length, codes, Option, Some, None, is_some, Result, Ok, Err, slice_index_or, if◌then◌else◌}
 use Rattle.c11_macros.specs.Results.{result_map, result_and_then}
 use Rattle.c11_macros.specs.Hidden.{Hidden, HideSet, Provenance, Failure, failure_at, no_names, union, meet}
-use Rattle.c11_macros.specs.Macros.{Form, object_like, function_like, escaped}
+use Rattle.c11_macros.specs.Macros.{Form, object_like, function_like, Rest, escaped}
 use Rattle.sc_model.specs.Token.{Item}
 use Rattle.c11_tokens.specs.Relex.{relexed}
 use Rattle.sc_model.specs.declared.cause.Cause.TheVariants.{BadPaste, BadStringize}
@@ -14,14 +14,19 @@ use Rattle.sc_model.specs.Token.{name_of}
 
 -- ---- parameters
 
--- the place of a name among the parameters, __VA_ARGS__ after them
-abbrev pub parameter_from : ℕ → List (List ℕ) → Bool → List ℕ → Option ℕ
-parameter_from n [] variadic name = if variadic && same_bytes name (codes "__VA_ARGS__") then Some n else None
-parameter_from n (p ∷ ps) variadic name = if same_bytes p name then Some n else parameter_from (n + 1) ps variadic name
+-- the rest has this name
+abbrev pub is_named : List ℕ → Option Rest → Bool
+is_named name None = false
+is_named name (Some rest) = same_bytes rest.name name
+
+-- the place of a name among the parameters, the rest after them
+abbrev pub parameter_from : ℕ → List (List ℕ) → Option Rest → List ℕ → Option ℕ
+parameter_from n [] rest name = if is_named name rest then Some n else None
+parameter_from n (p ∷ ps) rest name = if same_bytes p name then Some n else parameter_from (n + 1) ps rest name
 
 abbrev pub parameter_of : Form → List ℕ → Option ℕ
 parameter_of object_like name = None
-parameter_of (function_like parameters variadic) name = parameter_from 0 parameters variadic name
+parameter_of (function_like parameters rest) name = parameter_from 0 parameters rest name
 
 -- the argument of a parameter
 abbrev pub argument : {A : Type 0} → List (List A) → ℕ → List A
@@ -31,12 +36,13 @@ argument arguments n = slice_index_or arguments n []
 
 -- What stands in a replacement list: a token of its own; a # with its parameter, and the white
 -- space of the # (6.10.3.2); a parameter and its white space; a ## that joins its neighbours
--- (6.10.3.3).
+-- (6.10.3.3); a comma that is deleted where this argument is empty (gcc's manual, Variadic Macros).
 pub data Part : Type 0 where
   token : Item → Part
   literal : ℕ → Bool → Part
   parameter : ℕ → Bool → Part
   paste : Part
+  comma : Item → ℕ → Part
 
 abbrev pub is_hash : Item → Bool
 is_hash item = same_bytes (name_of item.spelling) (codes "#")
@@ -73,6 +79,64 @@ parts form before (item ∷ items) =
     if is_paste item && not (is_after_paste before) then paste ∷ parts form after_paste items
     else (if is_hash item && begins_with_parameter form items then parts form (after_hash item.space) items
     else operand_part before item (parameter_of form item.spelling) ∷ parts form neither items)
+
+-- ---- a comma, ## and the rest, with no other ## beside them (gcc's manual, Variadic Macros)
+
+abbrev pub is_paste_next : List Part → Bool
+is_paste_next (paste ∷ ps) = true
+is_paste_next _ = false
+
+-- what stands before a part: a ##, a comma that may be deleted, or neither
+pub data Joint : Type 0 where
+  apart : Joint
+  behind_paste : Joint
+  behind_comma : Joint
+
+abbrev pub joint_of : Part → Joint
+joint_of paste = behind_paste
+joint_of (token item) = if is_paste item then behind_paste else apart
+joint_of p = apart
+
+-- the rest, where a comma before it may be deleted
+abbrev pub deleting_rest : Form → Option ℕ
+deleting_rest object_like = None
+deleting_rest (function_like parameters None) = None
+deleting_rest (function_like parameters (Some rest)) = if rest.deletes_comma then Some (length parameters) else None
+
+-- ## and the rest come next, and then no ##
+abbrev pub is_rest_next : ℕ → List Part → Bool
+is_rest_next n (paste ∷ (parameter m space ∷ ps)) = n == m && not (is_paste_next ps)
+is_rest_next n ps = false
+
+-- the comma that a part is, where it may be deleted
+abbrev pub comma_of : Option ℕ → Joint → Part → List Part → Option Part
+comma_of (Some n) apart (token item) ps = if same_bytes item.spelling (codes ",") && is_rest_next n ps then Some (comma item n) else None
+comma_of rest before p ps = None
+
+abbrev pub first_part : Option Part → Part → List Part → List Part → List Part
+first_part None p others behind = p ∷ others
+first_part (Some c) p others behind = c ∷ behind
+
+-- the ## behind a comma that may be deleted pastes nothing
+abbrev pub with_commas : Option ℕ → Joint → List Part → List Part
+with_commas rest before [] = []
+with_commas rest behind_comma (p ∷ ps) = with_commas rest apart ps
+with_commas rest before (p ∷ ps) = first_part (comma_of rest before p ps) p (with_commas rest (joint_of p) ps) (with_commas rest behind_comma ps)
+
+abbrev pub parts_of : Form → List Item → List Part
+parts_of form items = with_commas (deleting_rest form) apart (parts form neither items)
+
+abbrev pub is_empty : {A : Type 0} → List A → Bool
+is_empty [] = true
+is_empty (x ∷ xs) = false
+
+abbrev pub is_deleted : {A : Type 0} → List (List A) → Part → Bool
+is_deleted raw (comma item n) = is_empty (argument raw n)
+is_deleted raw p = false
+
+-- the parts without the commas that are deleted
+abbrev pub kept : {A : Type 0} → List (List A) → List Part → List Part
+kept raw ps = filter (λ p. not (is_deleted raw p)) ps
 
 -- ---- string literals in the place of each # with its parameter (6.10.3.2)
 
@@ -121,10 +185,15 @@ slot_of head raw (token item) = Ok (filled_by (listed head item))
 slot_of head raw (literal n space) = result_map filled_by (stringized head space (argument raw n))
 slot_of head raw (parameter n space) = Ok (for_parameter n space)
 slot_of head raw paste = Ok for_paste
+slot_of head raw (comma item n) = Ok (filled_by (listed head item))
 
 abbrev pub slots : {P : Type 0} → Hidden P → List (List (Hidden P)) → List Part → Result (List (Slot P)) (Failure P)
 slots head raw [] = Ok []
 slots head raw (p ∷ ps) = result_and_then (λ s. result_map (λ rest. s ∷ rest) (slots head raw ps)) (slot_of head raw p)
+
+-- the slots of a macro's list
+abbrev pub list_slots : {P : Type 0} → Hidden P → List (List (Hidden P)) → Form → List Item → Result (List (Slot P)) (Failure P)
+list_slots head raw form items = slots head raw (kept raw (parts_of form items))
 
 -- ---- parameters replaced by arguments: as they are beside ##, expanded elsewhere (6.10.3.1)
 
@@ -210,13 +279,9 @@ put_together provenance head raw expanded names ss =
 -- The replacement of a macro's name: its list of items, with these arguments as they are and as
 -- they expand.
 abbrev pub substituted : {P : Type 0} → Provenance P → Form → List Item → Hidden P → List (List (Hidden P)) → List (List (Hidden P)) → HideSet → Result (List (Hidden P)) (Failure P)
-substituted provenance form items head raw expanded names = result_and_then (put_together provenance head raw expanded names) (slots head raw (parts form neither items))
+substituted provenance form items head raw expanded names = result_and_then (put_together provenance head raw expanded names) (list_slots head raw form items)
 
 -- ---- which arguments are expanded: those with a place beside no # and no ##
-
-abbrev pub is_paste_next : List Part → Bool
-is_paste_next (paste ∷ ps) = true
-is_paste_next _ = false
 
 -- the parameters with such a place, in the order of the places
 abbrev pub wanted_places : Bool → List Part → List ℕ
@@ -232,4 +297,4 @@ each_once (n ∷ ns) = n ∷ filter (λ m. not (m == n)) (each_once ns)
 
 -- each once, in the order of its first such place
 abbrev pub wanted_of : Form → List Item → List ℕ
-wanted_of form items = each_once (wanted_places false (parts form neither items))
+wanted_of form items = each_once (wanted_places false (parts_of form items))

@@ -4,7 +4,7 @@ use Rattle.c11_tokens.specs.declared.base.Base.{Base}
 use Rattle.c11_tokens.specs.declared.base.Base.TheVariants.{Binary, Octal, Decimal, Hexadecimal}
 use Rattle.sc_model.specs.Bytes.{same_bytes, begins_with, is_between, is_digit, is_hex_digit}
 use Rattle.sc_model.specs.declared.standard.Standard.{Standard}
-use Rattle.sc_model.specs.declared.standard.Standard.TheVariants.{C11, C23}
+use Rattle.sc_model.specs.declared.standard.Standard.TheVariants.{C11, C23, Gnu11}
 
 -- ---- digits
 
@@ -77,6 +77,7 @@ c11_marks = (120, Hexadecimal) ∷ (88, Hexadecimal) ∷ []
 abbrev pub marks_of : Standard → Marks
 marks_of C11 = c11_marks
 marks_of C23 = c11_marks ++ (98, Binary) ∷ (66, Binary) ∷ []
+marks_of Gnu11 = c11_marks
 
 abbrev pub base_marked : Marks → ℕ → Option Base
 base_marked [] letter = None

@@ -37,7 +37,7 @@ fn marked_base(letter: u8, standard: Standard) -> Option<Base>
     ensures { result ≡ base_marked (marks_of standard) letter }
 {
     match standard {
-        Standard::C11 => match letter {
+        Standard::C11 | Standard::Gnu11 => match letter {
             b'x' | b'X' => Some(Base::Hexadecimal),
             _ => None,
         },

@@ -73,7 +73,7 @@ fn named(word: &[u8], standard: Standard) -> Directive
     ensures { result ≡ directive_named (directives_of standard) word.now }
 {
     match standard {
-        Standard::C11 => c11_named(word),
+        Standard::C11 | Standard::Gnu11 => c11_named(word),
         Standard::C23 => c23_named(word),
     }
 }

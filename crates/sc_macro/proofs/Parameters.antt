@@ -1,9 +1,10 @@
 -- A parameter that is looked up by its name is the one that its text tells.
-use Rattle.std.proofs.Common.{◌≡◌, ℕ, suc, ◌+◌, ◌<◌, ◌==◌, ◌&&◌, ◌||◌, nat_lt, Bool, true, false, List, [], ◌∷◌, length, codes, Option, Some, None, position, refl, sym, ap, ◌∙◌, add-zero, zero-add, inl, inr, arith, if◌then◌else◌}
+use Rattle.std.proofs.Common.{◌≡◌, ℕ, suc, ◌+◌, ◌<◌, ◌==◌, ◌||◌, nat_lt, Bool, true, false, List, [], ◌∷◌, length, Option, Some, None, position, refl, sym, ap, ◌∙◌, add-zero, zero-add, inl, inr, arith, if◌then◌else◌}
 use Rattle.std.specs.List.{list_any, position_or_len}
 use Rattle.std.proofs.lemmas.Bool.{cases_Bool}
 use Rattle.std.proofs.lemmas.Bool.Decides.{nat_tests}
-use Rattle.c11_macros.specs.Substitution.{parameter_from}
+use Rattle.c11_macros.specs.Macros.{Rest}
+use Rattle.c11_macros.specs.Substitution.{is_named, parameter_from}
 use Rattle.sc_base.specs.declared.id.Name.{Name}
 use Rattle.sc_macro.specs.Seen.{text_of, texts_of, AreHeld}
 use Rattle.sc_macro.proofs.Texts.{same_text}
@@ -35,11 +36,11 @@ module _ (names : List (List ℕ)) (one : IsOneToOne names) (name : Name) (own :
   any_is (k ∷ ks) held =
       rw (same_text names name.0 k.0 one own (held 0 k (omega arith)), any_is ks (AreHeld-tail names k ks held)) (ap (λ b. b || list_any test ks) (sym (tests k)))
 
-  module _ (variadic : Bool) where
+  module _ (rest : Option Rest) where
     abbrev last : Bool
-    last = variadic && same_bytes (text_of names name) (codes "__VA_ARGS__")
+    last = is_named (text_of names name) rest
 
-    parameter_is : (n : ℕ) (ks : List Name) → AreHeld names ks → parameter_from n (texts_of names ks) variadic (text_of names name) ≡ found last n (position_or_len test ks) (length ks)
+    parameter_is : (n : ℕ) (ks : List Name) → AreHeld names ks → parameter_from n (texts_of names ks) rest (text_of names name) ≡ found last n (position_or_len test ks) (length ks)
     parameter_is n [] held = ap (λ m. if last then Some m else None) (sym (add-zero n))
     parameter_is n (k ∷ ks) held =
         rw (same_name k (held 0 k (omega arith))) (elim (cases_Bool (test k)) [
@@ -47,14 +48,14 @@ module _ (names : List (List ℕ)) (one : IsOneToOne names) (name : Name) (own :
           | inr other ↦ rw other (parameter_is (n + 1) ks (AreHeld-tail names k ks held) ∙ found-later last n (position_or_len test ks) (length ks))
         ])
 
-    pub parameter_some : (ks : List Name) (i : ℕ) → AreHeld names ks → position test ks ≡ Some i → parameter_from 0 (texts_of names ks) variadic (text_of names name) ≡ Some i
+    pub parameter_some : (ks : List Name) (i : ℕ) → AreHeld names ks → position test ks ≡ Some i → parameter_from 0 (texts_of names ks) rest (text_of names name) ≡ Some i
     parameter_some ks i held at = parameter_is 0 ks held ∙ by (nat_lt (position_or_len test ks) (length ks)) (position_or_len test ks) at
       where
         by : (b : Bool) (p : ℕ) → (if b then Some p else None) ≡ Some i → (if b then Some (0 + p) else (if last then Some (0 + length ks) else None)) ≡ Some i
         by true p h = ap Some (zero-add p) ∙ h
         by false p h = absurd (cc)
 
-    pub parameter_none : (ks : List Name) → AreHeld names ks → position test ks ≡ None → parameter_from 0 (texts_of names ks) variadic (text_of names name) ≡ (if last then Some (length ks) else None)
+    pub parameter_none : (ks : List Name) → AreHeld names ks → position test ks ≡ None → parameter_from 0 (texts_of names ks) rest (text_of names name) ≡ (if last then Some (length ks) else None)
     parameter_none ks held at = parameter_is 0 ks held ∙ by (nat_lt (position_or_len test ks) (length ks)) (position_or_len test ks) at
       where
         by : (b : Bool) (p : ℕ) → (if b then Some p else None) ≡ None → (if b then Some (0 + p) else (if last then Some (0 + length ks) else None)) ≡ (if last then Some (length ks) else None)

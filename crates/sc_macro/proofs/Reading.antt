@@ -12,6 +12,7 @@ use Rattle.sc_base.specs.Seen.{IsHeld, seen}
 use Rattle.c11_tokens.specs.Lex.{is_identifier_kind}
 use Rattle.sc_model.specs.Token as model_token
 use Rattle.sc_model.specs.declared.cause.Cause.{Cause}
+use Rattle.sc_model.specs.declared.standard.Standard.{Standard}
 use Rattle.sc_model.specs.declared.cause.Cause.TheVariants.{BadDefine, ProtectedName}
 use Rattle.sc_macro.specs.Items.{items_of, item_of}
 use Rattle.sc_macro.specs.declared.definition.Item.{Item}
@@ -32,24 +33,31 @@ pub data SameHead (names f g : List (List ℕ)) : Option model.Head → Option m
   one_head : (form : macros.Form) (ts : List declared.Token)
       → SameHead names f g (Some (record { form = form; rest = map (seen names f) ts })) (Some (record { form = form; rest = map (seen names g) ts }))
 
-module _ (names f g : List (List ℕ)) where
+module _ (standard : Standard) (names f g : List (List ℕ)) where
   choose : (a : Bool) (x y z w : Option model.Head) → SameHead names f g x y → SameHead names f g z w → SameHead names f g (if a then x else z) (if a then y else w)
   choose true x y z w h k = h
   choose false x y z w h k = k
 
-  after : (before : List (List ℕ)) (ts : List declared.Token) → SameHead names f g (model.parameters_after before (map (seen names f) ts)) (model.parameters_after before (map (seen names g) ts))
+  end : (form : macros.Form) (ts : List declared.Token) → SameHead names f g (model.closed form (map (seen names f) ts)) (model.closed form (map (seen names g) ts))
+  end form [] = no_head
+  end form (t ∷ ts) = choose (model.is_spelled (codes ")") (seen names f t)) _ _ _ _ (one_head form ts) no_head
+
+  after : (before : List (List ℕ)) (ts : List declared.Token)
+      → SameHead names f g (model.parameters_after standard before (map (seen names f) ts)) (model.parameters_after standard before (map (seen names g) ts))
   after before [] = no_head
   after before (t ∷ []) = no_head
   after before (t ∷ (u ∷ ts)) =
       choose (model.is_parameter before (seen names f t) && model.is_spelled (codes ",") (seen names f u)) _ _ _ _ (after (before ++ (seen names f t).spelling ∷ []) ts)
-      (choose (model.is_parameter before (seen names f t) && model.is_spelled (codes ")") (seen names f u)) _ _ _ _ (one_head (macros.function_like (before ++ (seen names f t).spelling ∷ []) false) ts)
-      (choose (model.is_spelled (codes "...") (seen names f t) && model.is_spelled (codes ")") (seen names f u)) _ _ _ _ (one_head (macros.function_like before true) ts) no_head))
+      (choose (model.is_parameter before (seen names f t) && model.is_spelled (codes ")") (seen names f u)) _ _ _ _ (one_head (macros.function_like (before ++ (seen names f t).spelling ∷ []) None) ts)
+      (choose (model.is_spelled (codes "...") (seen names f t) && model.is_spelled (codes ")") (seen names f u)) _ _ _ _ (one_head (macros.function_like before (model.rest_named standard (codes "__VA_ARGS__"))) ts)
+      (choose (model.names_rest standard && (model.is_parameter before (seen names f t) && model.is_spelled (codes "...") (seen names f u))) _ _ _ _
+      (end (macros.function_like before (model.rest_named standard (seen names f t).spelling)) ts) no_head)))
 
-  behind : (ts : List declared.Token) → SameHead names f g (model.parameters (map (seen names f) ts)) (model.parameters (map (seen names g) ts))
+  behind : (ts : List declared.Token) → SameHead names f g (model.parameters standard (map (seen names f) ts)) (model.parameters standard (map (seen names g) ts))
   behind [] = no_head
-  behind (t ∷ ts) = choose (model.is_spelled (codes ")") (seen names f t)) _ _ _ _ (one_head (macros.function_like [] false) ts) (after [] (t ∷ ts))
+  behind (t ∷ ts) = choose (model.is_spelled (codes ")") (seen names f t)) _ _ _ _ (one_head (macros.function_like [] None) ts) (after [] (t ∷ ts))
 
-  pub same_head : (ts : List declared.Token) → SameHead names f g (model.head_of (map (seen names f) ts)) (model.head_of (map (seen names g) ts))
+  pub same_head : (ts : List declared.Token) → SameHead names f g (model.head_of standard (map (seen names f) ts)) (model.head_of standard (map (seen names g) ts))
   same_head [] = one_head macros.object_like []
   same_head (t ∷ ts) = choose (model.is_spelled (codes "(") (seen names f t) && not t.space) _ _ _ _ (behind ts) (one_head macros.object_like (t ∷ ts))
 
@@ -59,7 +67,7 @@ module _ (names f g : List (List ℕ)) where
       ap (λ (list : List model_token.Item). model.define (seen names f name) form list) (sym (items-seen names f ts) ∙ items-seen names g ts)
 
   -- the tokens of a line behind the word define
-  pub reads-files : (ts : List declared.Token) → model.reads (map (seen names f) ts) ≡ model.reads (map (seen names g) ts)
+  pub reads-files : (ts : List declared.Token) → model.reads standard (map (seen names f) ts) ≡ model.reads standard (map (seen names g) ts)
   reads-files [] = refl
   reads-files (t ∷ ts) = ap (λ r. if is_identifier_kind t.kind then r else Err BadDefine) (defines t _ _ (same_head ts))
 
@@ -78,18 +86,18 @@ abbrev pub outcome : Bool → Bool → model.Defined → Result model.Defined Ca
 outcome fit protected d = if not fit then Err BadDefine else (if protected then Err ProtectedName else Ok d)
 
 -- the line from its name on
-module _ (names : List (List ℕ)) (line rest : List declared.Token) (some : 2 < length line) (is_name : is_identifier_kind (get_or line 2 no_token).kind ≡ true) (behind_name : rest ≡ drop 3 line) where
-  reads_by : (files : List (List ℕ)) → model.reads (map (seen names files) (drop 2 line)) ≡ model.define_by (seen names [] (get_or line 2 no_token)) (model.head_of (map (seen names []) rest))
+module _ (standard : Standard) (names : List (List ℕ)) (line rest : List declared.Token) (some : 2 < length line) (is_name : is_identifier_kind (get_or line 2 no_token).kind ≡ true) (behind_name : rest ≡ drop 3 line) where
+  reads_by : (files : List (List ℕ)) → model.reads standard (map (seen names files) (drop 2 line)) ≡ model.define_by (seen names [] (get_or line 2 no_token)) (model.head_of standard (map (seen names []) rest))
   reads_by files =
-      reads-files names files [] (drop 2 line)
-      ∙ (ap (λ ts. model.reads (map (seen names []) ts)) (drop-cons line 2 no_token some)
-      ∙ (ap (λ b. if b then model.define_by (seen names [] (get_or line 2 no_token)) (model.head_of (map (seen names []) (drop 3 line))) else Err BadDefine) is_name
-      ∙ ap (λ ts. model.define_by (seen names [] (get_or line 2 no_token)) (model.head_of (map (seen names []) ts))) (sym behind_name)))
+      reads-files standard names files [] (drop 2 line)
+      ∙ (ap (λ ts. model.reads standard (map (seen names []) ts)) (drop-cons line 2 no_token some)
+      ∙ (ap (λ b. if b then model.define_by (seen names [] (get_or line 2 no_token)) (model.head_of standard (map (seen names []) (drop 3 line))) else Err BadDefine) is_name
+      ∙ ap (λ ts. model.define_by (seen names [] (get_or line 2 no_token)) (model.head_of standard (map (seen names []) ts))) (sym behind_name)))
 
-  pub no_form : model.head_of (map (seen names []) rest) ≡ None → (files : List (List ℕ)) → model.reads (map (seen names files) (drop 2 line)) ≡ Err BadDefine
+  pub no_form : model.head_of standard (map (seen names []) rest) ≡ None → (files : List (List ℕ)) → model.reads standard (map (seen names files) (drop 2 line)) ≡ Err BadDefine
   no_form none files = reads_by files ∙ ap (model.define_by (seen names [] (get_or line 2 no_token))) none
 
-  module _ (head : Head) (told : IsHead names rest 0 head (model.head_of (map (seen names []) rest))) (list : List Item) (are : list ≡ items_of (take (length rest - head.length) (drop head.length rest))) where
+  module _ (head : Head) (told : IsHead names rest 0 head (model.head_of standard (map (seen names []) rest))) (list : List Item) (are : list ≡ items_of (take (length rest - head.length) (drop head.length rest))) where
     list_is : list ≡ items_of (drop head.length rest)
     list_is = are ∙ ap items_of (take_rest rest head.length)
 
@@ -97,7 +105,7 @@ module _ (names : List (List ℕ)) (line rest : List declared.Token) (some : 2 <
     held_list own =
         subst (All (IsHeldItem names)) (sym list_is) (held_items names (drop head.length rest) (All-drop (IsHeld names) head.length rest (subst (All (IsHeld names)) (sym behind_name) (All-drop (IsHeld names) 3 line own))))
 
-    defines_by : (files : List (List ℕ)) → model.reads (map (seen names files) (drop 2 line))
+    defines_by : (files : List (List ℕ)) → model.reads standard (map (seen names files) (drop 2 line))
         ≡ model.define (seen names [] (get_or line 2 no_token)) (seen_form names head.form) (map (seen_item names) list)
     defines_by files =
         let whole : head.length - 0 ≡ head.length = omega arith in
@@ -109,7 +117,7 @@ module _ (names : List (List ℕ)) (line rest : List declared.Token) (some : 2 <
 
     -- it is refused, or defines the name
     pub outcome_is : (fit protected : Bool) → fit ≡ model.fits (seen_form names head.form) (map (seen_item names) list) → protected ≡ model.is_protected (text_of names (get_or line 2 no_token).spelling)
-        → (files : List (List ℕ)) → model.reads (map (seen names files) (drop 2 line))
+        → (files : List (List ℕ)) → model.reads standard (map (seen names files) (drop 2 line))
         ≡ outcome fit protected (record { name = text_of names (get_or line 2 no_token).spelling; definition = record { form = seen_form names head.form; replacement = macros.items (map (seen_item names) list) } })
     outcome_is fit protected fits guards files =
         defines_by files

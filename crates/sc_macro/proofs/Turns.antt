@@ -2,7 +2,7 @@
 use Rattle.std.proofs.Common.{◌≡◌, ℕ, suc, ◌+◌, ◌-◌, ◌<◌, ◌==◌, ◌&&◌, not, Bool, true, false, List, [], ◌∷◌, ◌++◌, length, map, drop, get_or, codes, Option, Some, None, refl, sym, ap, ◌∙◌, subst, arith, if◌then◌else◌}
 use Rattle.std.specs.List.{list_any}
 use Rattle.std.proofs.Math.Seq.{drop-cons}
-use Rattle.std.proofs.lemmas.Bool.{not-true}
+use Rattle.std.proofs.lemmas.Bool.{and_parts, not-true, true≢false}
 use Rattle.std.proofs.lemmas.List.{map-append}
 use Rattle.indexmap.specs.IndexSet.{insert_key}
 use Rattle.c11_macros.specs.Defines as model
@@ -14,27 +14,32 @@ use Rattle.sc_base.specs.declared.token.Token as declared
 use Rattle.sc_base.specs.Seen.{seen}
 use Rattle.sc_model.specs.declared.kind.Kind.TheVariants.{Identifier}
 use Rattle.sc_model.specs.Growth.{IsOneToOne}
+use Rattle.c11_tokens.specs.Lex.{is_identifier_kind}
 use Rattle.sc_model.specs.Bytes.{same_bytes}
+use Rattle.sc_model.specs.declared.standard.Standard.{Standard}
 use Rattle.sc_model.specs.Token.{Token}
 use Rattle.sc_macro.specs.declared.head.Head.{Head}
 use Rattle.sc_macro.specs.declared.head.Turn.{Turn}
-use Rattle.sc_macro.specs.declared.head.Turn.TheVariants.{More, Last, Dots, Wrong}
+use Rattle.sc_macro.specs.declared.head.Turn.TheVariants.{More, Last, Dots, Named, Wrong}
 use Rattle.sc_macro.specs.Head.{turn_of}
 use Rattle.sc_macro.specs.Seen.{text_of, texts_of, AreHeld, seen_form}
 use Rattle.sc_macro.proofs.Parameters.{any_is}
 
-abbrev pub by_turn : {A : Type 0} → A → A → A → A → Turn → A
-by_turn x y z w More = x
-by_turn x y z w Last = y
-by_turn x y z w Dots = z
-by_turn x y z w Wrong = w
+abbrev pub by_turn : {A : Type 0} → A → A → A → A → A → Turn → A
+by_turn x y z v w More = x
+by_turn x y z v w Last = y
+by_turn x y z v w Dots = z
+by_turn x y z v w Named = v
+by_turn x y z v w Wrong = w
 
-pick : {A : Type 0} (a b c : Bool) (x y z w : A)
-    → (if a then x else (if b then y else (if c then z else w))) ≡ by_turn x y z w (if a then More else (if b then Last else (if c then Dots else Wrong)))
-pick true b c x y z w = refl
-pick false true c x y z w = refl
-pick false false true x y z w = refl
-pick false false false x y z w = refl
+pick : {A : Type 0} (a b c d : Bool) (x y z v w : A)
+    → (if a then x else (if b then y else (if c then z else (if d then v else w))))
+    ≡ by_turn x y z v w (if a then More else (if b then Last else (if c then Dots else (if d then Named else Wrong))))
+pick true b c d x y z v w = refl
+pick false true c d x y z v w = refl
+pick false false true d x y z v w = refl
+pick false false false true x y z v w = refl
+pick false false false false x y z v w = refl
 
 drop_two : {T : Type 0} (xs : List T) (at : ℕ) (d e : T) → at + 1 < length xs → drop at xs ≡ get_or xs at d ∷ (get_or xs (at + 1) e ∷ drop (at + 2) xs)
 drop_two xs at d e h =
@@ -44,38 +49,46 @@ drop_two xs at d e h =
     ∙ ap (λ ys. get_or xs at d ∷ ys) (ap (λ k. drop k xs) one ∙ (drop-cons xs (at + 1) e h ∙ ap (λ k. get_or xs (at + 1) e ∷ drop k xs) two))
 
 -- what the tokens say from the next two on
-pub turned : (names before : List (List ℕ)) (line : List declared.Token) (at : ℕ) (d e : declared.Token) → at + 1 < length line
-    → model.parameters_after before (map (seen names []) (drop at line))
-    ≡ by_turn (model.parameters_after (before ++ text_of names (get_or line at d).spelling ∷ []) (map (seen names []) (drop (at + 2) line)))
-    (Some (record { form = function_like (before ++ text_of names (get_or line at d).spelling ∷ []) false; rest = map (seen names []) (drop (at + 2) line) }))
-    (Some (record { form = function_like before true; rest = map (seen names []) (drop (at + 2) line) })) None
-    (turn_of before (seen names [] (get_or line at d)) (seen names [] (get_or line (at + 1) e)))
-turned names before line at d e h =
-    ap (λ ts. model.parameters_after before (map (seen names []) ts)) (drop_two line at d e h)
+pub turned : (standard : Standard) (names before : List (List ℕ)) (line : List declared.Token) (at : ℕ) (d e : declared.Token) → at + 1 < length line
+    → model.parameters_after standard before (map (seen names []) (drop at line))
+    ≡ by_turn (model.parameters_after standard (before ++ text_of names (get_or line at d).spelling ∷ []) (map (seen names []) (drop (at + 2) line)))
+    (Some (record { form = function_like (before ++ text_of names (get_or line at d).spelling ∷ []) None; rest = map (seen names []) (drop (at + 2) line) }))
+    (Some (record { form = function_like before (model.rest_named standard (codes "__VA_ARGS__")); rest = map (seen names []) (drop (at + 2) line) }))
+    (model.closed (function_like before (model.rest_named standard (text_of names (get_or line at d).spelling))) (map (seen names []) (drop (at + 2) line))) None
+    (turn_of standard before (seen names [] (get_or line at d)) (seen names [] (get_or line (at + 1) e)))
+turned standard names before line at d e h =
+    ap (λ ts. model.parameters_after standard before (map (seen names []) ts)) (drop_two line at d e h)
     ∙ pick (model.is_parameter before (seen names [] (get_or line at d)) && model.is_spelled (codes ",") (seen names [] (get_or line (at + 1) e)))
     (model.is_parameter before (seen names [] (get_or line at d)) && model.is_spelled (codes ")") (seen names [] (get_or line (at + 1) e)))
-    (model.is_spelled (codes "...") (seen names [] (get_or line at d)) && model.is_spelled (codes ")") (seen names [] (get_or line (at + 1) e))) _ _ _ _
+    (model.is_spelled (codes "...") (seen names [] (get_or line at d)) && model.is_spelled (codes ")") (seen names [] (get_or line (at + 1) e)))
+    (model.names_rest standard && (model.is_parameter before (seen names [] (get_or line at d)) && model.is_spelled (codes "...") (seen names [] (get_or line (at + 1) e)))) _ _ _ _ _
 
--- before a comma or the end a parameter stands
-abbrev pub Word : Bool → Turn → Type 0
-Word p More = p ≡ true
-Word p Last = p ≡ true
-Word p Dots = Unit {0}
-Word p Wrong = Unit {0}
+-- what a parameter stands before
+abbrev pub is_parameter_turn : Turn → Bool
+is_parameter_turn More = true
+is_parameter_turn Last = true
+is_parameter_turn Dots = false
+is_parameter_turn Named = true
+is_parameter_turn Wrong = false
 
-is_word : (p q r s : Bool) (turn : Turn) → (if p && q then More else (if p && r then Last else (if s then Dots else Wrong))) ≡ turn → Word p turn
-is_word true q r s More h = refl
-is_word true q r s Last h = refl
-is_word false q r true More h = absurd (cc)
-is_word false q r false More h = absurd (cc)
-is_word false q r true Last h = absurd (cc)
-is_word false q r false Last h = absurd (cc)
-is_word p q r s Dots h = tt
-is_word p q r s Wrong h = tt
+is_word : (p q r s n d : Bool) (turn : Turn) → is_parameter_turn turn ≡ true
+    → (if p && q then More else (if p && r then Last else (if s then Dots else (if n && (p && d) then Named else Wrong)))) ≡ turn → p ≡ true
+is_word true q r s n d turn is h = refl
+is_word false q r true n d turn is h = absurd (true≢false (sym is ∙ ap is_parameter_turn (sym h)))
+is_word false q r false true d turn is h = absurd (true≢false (sym is ∙ ap is_parameter_turn (sym h)))
+is_word false q r false false d turn is h = absurd (true≢false (sym is ∙ ap is_parameter_turn (sym h)))
 
-pub parameter_there : (before : List (List ℕ)) (t u : Token) (turn : Turn) → turn_of before t u ≡ turn → Word (model.is_parameter before t) turn
-parameter_there before t u turn h =
-    is_word (model.is_parameter before t) (model.is_spelled (codes ",") u) (model.is_spelled (codes ")") u) (model.is_spelled (codes "...") t && model.is_spelled (codes ")") u) turn h
+pub parameter_there : (standard : Standard) (before : List (List ℕ)) (t u : Token) (turn : Turn) → is_parameter_turn turn ≡ true → turn_of standard before t u ≡ turn
+    → model.is_parameter before t ≡ true
+parameter_there standard before t u turn is h =
+    is_word (model.is_parameter before t) (model.is_spelled (codes ",") u) (model.is_spelled (codes ")") u) (model.is_spelled (codes "...") t && model.is_spelled (codes ")") u)
+    (model.names_rest standard) (model.is_spelled (codes "...") u) turn is h
+
+-- a parameter has another name than the rest that has none
+pub own_name : (names before : List (List ℕ)) (t : declared.Token) → model.is_parameter before (seen names [] t) ≡ true → text_of names t.spelling ≡ codes "__VA_ARGS__" → ⊥
+own_name names before t is same =
+    let apart = (and_parts (is_identifier_kind t.kind) (not (model.is_spelled (codes "__VA_ARGS__") (seen names [] t))) (and_parts _ _ is).0).1 in
+    true≢false (sym (ap (λ s. same_bytes s (codes "__VA_ARGS__")) same) ∙ not-true _ apart)
 
 -- an element that is not there
 abbrev pub no_token : declared.Token

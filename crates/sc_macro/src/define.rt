@@ -12,21 +12,27 @@ use crate::head::{is_identifier, read_head};
 use crate::items::items;
 use crate::{DefineStop, Definition, Replacement};
 use sc_base::{Cause, Names, Token, is_same};
+use sc_model::Standard;
 use std::alloc::Global;
 
 /// What a `#define` line defines: the line is given whole, with its `#` and the word `define`.
-pub fn read_define(alloc: Global, names: &Names, line: &[Token]) -> Result<Definition, DefineStop>
+pub fn read_define(
+    alloc: Global,
+    names: &Names,
+    standard: Standard,
+    line: &[Token],
+) -> Result<Definition, DefineStop>
     requires { All (IsHeld names.now) line.now }
-    ensures ok { IfOk result (Reads names.now line.now) }
+    ensures ok { IfOk result (Reads standard names.now line.now) }
     ensures own { IfOk result (IsHeldDefinition names.now) }
-    ensures err { IfErr result (Refuses names.now line.now) }
+    ensures err { IfErr result (Refuses standard names.now line.now) }
 {
     if line.len() < 3 || !is_identifier(line[2].kind) {
         return Err(DefineStop::Fault(Cause::BadDefine));
     }
     let name = line[2].spelling;
     let rest = &line[3..];
-    let Some(head) = read_head(alloc, names, rest)? else {
+    let Some(head) = read_head(alloc, names, standard, rest)? else {
         return Err(DefineStop::Fault(Cause::BadDefine));
     };
     let list = items(alloc, &rest[head.length..])?;

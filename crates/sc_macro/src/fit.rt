@@ -1,8 +1,9 @@
-ghost use Rattle.std.specs.Prelude.{◌≡◌, All, codes, map};
+ghost use Rattle.std.specs.Prelude.{◌≡◌, ℕ, All, List, codes, map};
 ghost use Rattle.std.specs.List.{list_any};
 ghost use Rattle.sc_model.specs.Bytes.{same_bytes};
 ghost use Rattle.c11_macros.specs.Defines as model;
 ghost use Rattle.c11_macros.specs.Substitution as substitution;
+ghost use Rattle.c11_macros.specs.Substitution.{is_named};
 ghost use Rattle.sc_macro.specs.Seen.{IsHeldForm, IsHeldItem, seen_form, seen_item};
 
 use crate::{Form, Item};
@@ -17,7 +18,7 @@ pub fn fits(names: &Names, form: &Form, list: &[Item]) -> bool
     !begins_with_paste(names, list)
         && !ends_with_paste(names, list)
         && (!form.is_function_like() || hashes_fit(names, form, list))
-        && (form.is_variadic() || !has_variable_arguments(names, list))
+        && (names_variable_arguments(form) || !has_variable_arguments(names, list))
 }
 
 fn begins_with_paste(names: &Names, list: &[Item]) -> bool
@@ -62,6 +63,16 @@ pub fn begins_with_parameter(names: &Names, form: &Form, list: &[Item]) -> bool
     match list {
         [] => false,
         [first, ..] => form.parameter(names, first.spelling).is_some(),
+    }
+}
+
+/// Whether the macro has a rest that is named `__VA_ARGS__`.
+fn names_variable_arguments(form: &Form) -> bool
+    ensures { (names : List (List ℕ)) → IsHeldForm names form.now → result ≡ is_named (codes "__VA_ARGS__") (model.rest_of (seen_form names form.now)) }
+{
+    match form.rest() {
+        Some(rest) => rest.name.is_none(),
+        None => false,
     }
 }
 

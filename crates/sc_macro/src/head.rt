@@ -1,15 +1,17 @@
-ghost use Rattle.std.specs.Prelude.{◌≡◌, ◌+◌, ◌<◌, ◌^◌, [], All, IfOk, length, map};
+ghost use Rattle.std.specs.Prelude.{◌≡◌, ◌+◌, ◌<◌, ◌^◌, [], Some, None, All, IfOk, IsTrue, drop, if◌then◌else◌, length, map};
 ghost use Rattle.std.specs.List.{list_any};
 ghost use Rattle.sc_model.specs.Bytes.{same_bytes};
 ghost use Rattle.c11_tokens.specs.Lex.{is_identifier_kind};
 ghost use Rattle.c11_macros.specs.Defines as model;
+ghost use Rattle.c11_macros.specs.Macros as macros;
 ghost use Rattle.sc_base.specs.Seen.{IsHeld, seen};
 ghost use Rattle.sc_macro.specs.Seen.{AreHeld, text_of, texts_of};
 ghost use Rattle.sc_macro.specs.Head.{Heads, turn_of};
 
-use crate::Form;
+use crate::{Form, Rest};
 use indexmap::IndexSet;
 use sc_base::{Kind, Name, Names, OutOfMemory, Token, is_same};
+use sc_model::Standard;
 use std::alloc::Global;
 
 /// The form of a macro, which the first `length` tokens behind its name tell.
@@ -28,14 +30,21 @@ pub enum Turn {
     Last,
     /// The `...` at the end.
     Dots,
+    /// A name for the rest, and `...`.
+    Named,
     Wrong,
 }
 
 /// The form that the tokens behind a macro's name tell. A macro is function-like where `(` follows
 /// with no white space before it.
-pub fn read_head(alloc: Global, names: &Names, line: &[Token]) -> Result<Option<Head>, OutOfMemory>
+pub fn read_head(
+    alloc: Global,
+    names: &Names,
+    standard: Standard,
+    line: &[Token],
+) -> Result<Option<Head>, OutOfMemory>
     requires { All (IsHeld names.now) line.now }
-    ensures { IfOk result (λ head. Heads names.now line.now 0 head (model.head_of (map (seen names.now []) line.now))) }
+    ensures { IfOk result (λ head. Heads names.now line.now 0 head (model.head_of standard (map (seen names.now []) line.now))) }
 {
     if line.is_empty() || !is_spelled(names, &line[0], b"(") || line[0].space {
         return Ok(Some(Head {
@@ -43,13 +52,18 @@ pub fn read_head(alloc: Global, names: &Names, line: &[Token]) -> Result<Option<
             length: 0,
         }));
     }
-    parameters(alloc, names, &line[1..])
+    parameters(alloc, names, standard, &line[1..])
 }
 
 /// The form that the tokens behind the opening parenthesis tell.
-fn parameters(alloc: Global, names: &Names, line: &[Token]) -> Result<Option<Head>, OutOfMemory>
+fn parameters(
+    alloc: Global,
+    names: &Names,
+    standard: Standard,
+    line: &[Token],
+) -> Result<Option<Head>, OutOfMemory>
     requires { All (IsHeld names.now) line.now }
-    ensures { IfOk result (λ head. Heads names.now line.now 1 head (model.parameters (map (seen names.now []) line.now))) }
+    ensures { IfOk result (λ head. Heads names.now line.now 1 head (model.parameters standard (map (seen names.now []) line.now))) }
 {
     if line.is_empty() {
         return Ok(None);
@@ -58,29 +72,30 @@ fn parameters(alloc: Global, names: &Names, line: &[Token]) -> Result<Option<Hea
         return Ok(Some(Head {
             form: Form::Function {
                 parameters: IndexSet::new(alloc),
-                variadic: false,
+                rest: None,
             },
             length: 2,
         }));
     }
-    listed_parameters(alloc, names, line)
+    listed_parameters(alloc, names, standard, line)
 }
 
 /// The same where something stands between the parentheses.
 fn listed_parameters(
     alloc: Global,
     names: &Names,
+    standard: Standard,
     line: &[Token],
 ) -> Result<Option<Head>, OutOfMemory>
     requires { All (IsHeld names.now) line.now }
-    ensures { IfOk result (λ head. Heads names.now line.now 1 head (model.parameters_after [] (map (seen names.now []) line.now))) }
+    ensures { IfOk result (λ head. Heads names.now line.now 1 head (model.parameters_after standard [] (map (seen names.now []) line.now))) }
 {
     names.one_to_one();
     let mut parameters = IndexSet::new(alloc);
     let mut at = 0;
     while at + 1 < line.len() {
         let word = line[at].spelling;
-        let turn = next_turn(names, &parameters, &line[at], &line[at + 1]);
+        let turn = next_turn(names, standard, &parameters, &line[at], &line[at + 1]);
         at += 2;
         match turn {
             Turn::More => {
@@ -88,35 +103,69 @@ fn listed_parameters(
             }
             Turn::Last => {
                 parameters.insert(word)?;
-                return Ok(Some(function_like(parameters, false, at)));
+                return Ok(Some(function_like(parameters, None, at)));
             }
-            Turn::Dots => return Ok(Some(function_like(parameters, true, at))),
+            Turn::Dots => {
+                let rest = rest(standard, None);
+                return Ok(Some(function_like(parameters, Some(rest), at)));
+            }
+            Turn::Named if closes(names, &line[at..]) => {
+                let rest = rest(standard, Some(word));
+                return Ok(Some(function_like(parameters, Some(rest), at + 1)));
+            }
+            Turn::Named => return Ok(None),
             Turn::Wrong => return Ok(None),
         }
     }
     Ok(None)
 }
 
-fn function_like(parameters: IndexSet<Name>, variadic: bool, length: usize) -> Head
+/// The rest under a standard, of this name or `__VA_ARGS__`.
+fn rest(standard: Standard, name: Option<Name>) -> Rest
+    ensures { result ≡ record { name = name; deletes_comma = model.deletes_comma standard } }
+{
+    Rest {
+        name,
+        deletes_comma: matches!(standard, Standard::Gnu11),
+    }
+}
+
+/// Whether `)` stands first.
+fn closes(names: &Names, line: &[Token]) -> bool
+    requires { All (IsHeld names.now) line.now }
+    ensures is { (form : macros.Form) → model.closed form (map (seen names.now []) line.now)
+        ≡ (if result then Some (record { form = form; rest = map (seen names.now []) (drop 1 line.now) }) else None) }
+    ensures some { IsTrue result → 0 < length line.now }
+{
+    match line {
+        [] => false,
+        [first, ..] => is_spelled(names, first, b")"),
+    }
+}
+
+fn function_like(parameters: IndexSet<Name>, rest: Option<Rest>, length: usize) -> Head
     requires { length < 2 ^ 63 }
-    ensures form { result.form ≡ Form.Function parameters variadic }
+    ensures form { result.form ≡ Form.Function parameters rest }
     ensures length { result.length ≡ length + 1 }
 {
     Head {
-        form: Form::Function {
-            parameters,
-            variadic,
-        },
+        form: Form::Function { parameters, rest },
         length: length + 1,
     }
 }
 
 /// What two tokens of a list of parameters are, behind these parameters.
-fn next_turn(names: &Names, parameters: &IndexSet<Name>, word: &Token, next: &Token) -> Turn
+fn next_turn(
+    names: &Names,
+    standard: Standard,
+    parameters: &IndexSet<Name>,
+    word: &Token,
+    next: &Token,
+) -> Turn
     requires parameters { AreHeld names.now parameters.now.keys }
     requires word { IsHeld names.now word.now }
     requires next { IsHeld names.now next.now }
-    ensures { result ≡ turn_of (texts_of names.now parameters.now.keys) (seen names.now [] word.now) (seen names.now [] next.now) }
+    ensures { result ≡ turn_of standard (texts_of names.now parameters.now.keys) (seen names.now [] word.now) (seen names.now [] next.now) }
 {
     let is_parameter = is_parameter(names, parameters, word);
     if is_parameter && is_spelled(names, next, b",") {
@@ -125,9 +174,18 @@ fn next_turn(names: &Names, parameters: &IndexSet<Name>, word: &Token, next: &To
         Turn::Last
     } else if is_spelled(names, word, b"...") && is_spelled(names, next, b")") {
         Turn::Dots
+    } else if names_rest(standard) && is_parameter && is_spelled(names, next, b"...") {
+        Turn::Named
     } else {
         Turn::Wrong
     }
+}
+
+/// Whether a name may stand before `...`.
+fn names_rest(standard: Standard) -> bool
+    ensures { result ≡ model.names_rest standard }
+{
+    matches!(standard, Standard::Gnu11)
 }
 
 /// Whether a token may be the next parameter.

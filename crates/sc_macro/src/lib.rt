@@ -12,6 +12,6 @@ mod stop;
 
 pub use define::{is_protected, read_define};
 pub use definition::{Definition, Item, Replacement};
-pub use form::{Form, counts};
+pub use form::{Form, Rest, counts};
 pub use same::same_definition;
 pub use stop::DefineStop;

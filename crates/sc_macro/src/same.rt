@@ -2,7 +2,7 @@ ghost use Rattle.std.specs.Prelude.{◌≡◌, ℕ, ◌↔◌, IsTrue, List};
 ghost use Rattle.sc_model.specs.Growth.{IsOneToOne};
 ghost use Rattle.sc_macro.specs.Seen.{IsHeldDefinition, IsHeldForm, IsHeldReplacement, seen_definition, seen_form, seen_replacement};
 
-use crate::{Definition, Form, Item, Replacement};
+use crate::{Definition, Form, Item, Replacement, Rest};
 use sc_base::Name;
 
 /// Whether two definitions are the same: of one form, with the same parameters, spellings and white
@@ -23,18 +23,24 @@ fn same_form(a: &Form, b: &Form) -> bool
         (
             Form::Function {
                 parameters: a,
-                variadic: x,
+                rest: x,
             },
             Form::Function {
                 parameters: b,
-                variadic: y,
+                rest: y,
             },
-        ) => same_names(a.as_slice(), b.as_slice()) && *x == *y,
+        ) => same_names(a.as_slice(), b.as_slice()) && same_rest(x, y),
         _ => false,
     }
 }
 
 fn same_names(a: &[Name], b: &[Name]) -> bool
+    ensures { IsTrue result ↔ (a.now ≡ b.now) }
+{
+    a == b
+}
+
+fn same_rest(a: &Option<Rest>, b: &Option<Rest>) -> bool
     ensures { IsTrue result ↔ (a.now ≡ b.now) }
 {
     a == b

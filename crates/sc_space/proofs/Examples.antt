@@ -7,7 +7,7 @@ use Rattle.sc_space.specs.Texts.{Texts}
 use Rattle.sc_space.specs.Settings.{limit_of, directory_of, date_of, standard_of}
 use Rattle.sc_space.specs.SpaceFile.{unknown_key, no_variables, bad_name, bad_option, repeated_option, not_toml, bad_limit, bad_include, bad_date, bad_standard, read_document, check_keys, variables_table, is_ascii_identifier, is_protected, read_option, read_each, read_options, are_different, read_variable, read_variables, read_limit, read_directories, read_include, read_date, read_standard, with_settings, read_space}
 use Rattle.toml.proofs.OnLiterals.{toml_on_literals}
-use Rattle.sc_model.specs.declared.standard.Standard.TheVariants.{C11, C23}
+use Rattle.sc_model.specs.declared.standard.Standard.TheVariants.{C11, C23, Gnu11}
 
 unfoldable on_examples : ⊤
 unfolding toml_on_literals chars is_utf8 read_document check_keys variables_table is_ascii_identifier is_protected read_option read_each read_options are_different read_variable read_variables read_limit limit_of read_directories directory_of read_include read_date date_of read_standard standard_of with_settings read_space
@@ -73,6 +73,10 @@ standard_of_gnu = refl
 standard_c23 : read_space no_texts (codes "standard = \"c23\"\n[variables]\n") ≡ Ok (record (with_defaults []) { standard = C23 })
 unfolding on_examples
 standard_c23 = refl
+
+standard_gnu11 : read_space no_texts (codes "standard = \"gnu11\"\n[variables]\n") ≡ Ok (record (with_defaults []) { standard = Gnu11 })
+unfolding on_examples
+standard_gnu11 = refl
 
 -- every text is an option, with an empty list
 abbrev all_texts : Texts

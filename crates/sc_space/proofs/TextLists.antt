@@ -24,6 +24,7 @@ use Rattle.sc_macro.specs.Seen.{seen_replacement}
 use Rattle.sc_model.specs.declared.cause.Cause.{Cause}
 use Rattle.sc_model.specs.Bytes.{has_no_newline}
 use Rattle.sc_model.specs.Token.{Item, Lexeme, Position, Token, in_file}
+use Rattle.sc_model.specs.declared.standard.Standard.TheVariants.{C11}
 use Rattle.sc_space.specs.Texts.{AreTexts, Texts, define_line, line_defines, list_defined, list_of}
 
 -- ---- each text has one answer
@@ -69,9 +70,9 @@ list-plain (items given) list is plain = subst (All PlainItem) (same_Some _ _ is
 list-plain file_name list is plain = absurd (cc)
 list-plain line_number list is plain = absurd (cc)
 
-defined-plain : (tokens : List Token) (r : Result Defined Cause) (list : List Item) → All PlainToken tokens → reads tokens ≡ r → option_and_then (λ (d : Defined). list_of d.definition.replacement) (result_ok r) ≡ Some list
+defined-plain : (tokens : List Token) (r : Result Defined Cause) (list : List Item) → All PlainToken tokens → reads C11 tokens ≡ r → option_and_then (λ (d : Defined). list_of d.definition.replacement) (result_ok r) ≡ Some list
     → All PlainItem list
-defined-plain tokens (Ok d) list plain read is = list-plain d.definition.replacement list is (reads-one_line tokens d plain read)
+defined-plain tokens (Ok d) list plain read is = list-plain d.definition.replacement list is (reads-one_line C11 tokens d plain read)
 defined-plain tokens (Err cause) list plain read is = absurd (cc)
 
 line-plain : (ts : List Lexeme) (list : List Item) → list_all is_plain ts ≡ true → line_defines ts ≡ Some list → All PlainItem list
@@ -135,11 +136,11 @@ module _ (names : List (List ℕ)) (line : List base.Token) (ts : List Lexeme) (
   behind : map (seen names []) (drop 2 line) ≡ map (in_file []) (drop 2 ts)
   behind = sym (drop-map (seen names []) 2 line) ∙ (ap (drop 2) (seen-line names line ts each) ∙ drop-map (in_file []) 2 ts)
 
-  pub defines-list : (d : macro.Definition) → Reads names line d → list_of (seen_replacement names d.replacement) ≡ list_defined ts
-  defines-list d read = sym (ap list_from (read [])) ∙ ap (λ (tokens : List Token). list_from (reads tokens)) behind
+  pub defines-list : (d : macro.Definition) → Reads C11 names line d → list_of (seen_replacement names d.replacement) ≡ list_defined ts
+  defines-list d read = sym (ap list_from (read [])) ∙ ap (λ (tokens : List Token). list_from (reads C11 tokens)) behind
 
-  pub defines-nothing : (cause : Cause) → ((files : List (List ℕ)) → reads (map (seen names files) (drop 2 line)) ≡ Err cause) → None ≡ list_defined ts
-  defines-nothing cause read = sym (ap list_from (read [])) ∙ ap (λ (tokens : List Token). list_from (reads tokens)) behind
+  pub defines-nothing : (cause : Cause) → ((files : List (List ℕ)) → reads C11 (map (seen names files) (drop 2 line)) ≡ Err cause) → None ≡ list_defined ts
+  defines-nothing cause read = sym (ap list_from (read [])) ∙ ap (λ (tokens : List Token). list_from (reads C11 tokens)) behind
 
 -- the line without the token at its end
 pub front-lexemes : (names : List (List ℕ)) (tokens : List base.Token) (ts : List Lexeme) (n : ℕ) → map (lexeme_at names) tokens ≡ map Some ts → map (lexeme_at names) (take n tokens) ≡ map Some (take n ts)

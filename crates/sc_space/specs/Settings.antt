@@ -3,7 +3,7 @@ use Rattle.std.specs.Prelude.{ℕ, ◌==◌, ◌&&◌, not, nat_le, Bool, List, 
 use Rattle.std.specs.List.{list_all}
 use Rattle.sc_model.specs.Bytes.{is_between, same_bytes}
 use Rattle.sc_model.specs.declared.standard.Standard.{Standard}
-use Rattle.sc_model.specs.declared.standard.Standard.TheVariants.{C11, C23}
+use Rattle.sc_model.specs.declared.standard.Standard.TheVariants.{C11, C23, Gnu11}
 use Rattle.toml.specs.Data.{Data, string, integer}
 
 -- what the value says, or the default where there is none
@@ -35,7 +35,11 @@ date_of size (string text) = if (length text == size) && list_all is_date_byte t
 date_of size _ = None
 
 abbrev pub standard_named : List ℕ → Option Standard
-standard_named name = if same_bytes name (codes "c11") then Some C11 else (if same_bytes name (codes "c23") then Some C23 else None)
+standard_named name =
+    if same_bytes name (codes "c11") then Some C11
+    else (if same_bytes name (codes "c23") then Some C23
+    else (if same_bytes name (codes "gnu11") then Some Gnu11
+    else None))
 
 -- the text that names a standard
 unfoldable pub standard_of : Data → Option Standard

@@ -7,6 +7,7 @@ use Rattle.sc_model.specs.Token.{Item, Lexeme, Position, in_file}
 use Rattle.c11_tokens.specs.Lex.{Lexed, is_newline}
 use Rattle.c11_macros.specs.Defines.{Defined, reads}
 use Rattle.c11_macros.specs.Macros.{Replacement, items, file_name, line_number}
+use Rattle.sc_model.specs.declared.standard.Standard.TheVariants.{C11}
 
 -- the line that defines the name as the text
 abbrev pub define_line : List ℕ → List ℕ → List ℕ
@@ -17,9 +18,10 @@ list_of (items list) = Some list
 list_of file_name = None
 list_of line_number = None
 
--- what these tokens define, of which the first two are `#` and the word define
+-- What these tokens define, of which the first two are `#` and the word define. Standards differ in
+-- parameters alone, and none stand here.
 abbrev pub list_defined : List Lexeme → Option (List Item)
-list_defined ts = option_and_then (λ (d : Defined). list_of d.definition.replacement) (result_ok (reads (map (in_file []) (drop 2 ts))))
+list_defined ts = option_and_then (λ (d : Defined). list_of d.definition.replacement) (result_ok (reads C11 (map (in_file []) (drop 2 ts))))
 
 -- the same of tokens with the newline that ends their line, where no other newline is among them
 abbrev pub line_defines : List Lexeme → Option (List Item)

@@ -210,6 +210,8 @@ fn standard_named(name: &[u8]) -> Option<Standard>
         Some(Standard::C11)
     } else if is_same(name, b"c23") {
         Some(Standard::C23)
+    } else if is_same(name, b"gnu11") {
+        Some(Standard::Gnu11)
     } else {
         None
     }

@@ -13,6 +13,7 @@ use crate::SpelledItem;
 use sc_base::{FileId, Kind, Names, OutOfMemory, Token};
 use sc_lex::{LexStop, tokens};
 use sc_macro::{DefineStop, Item, Replacement, read_define};
+use sc_model::Standard;
 use std::alloc::Global;
 
 /// The replacement list that a text is, if the text is an option of the name.
@@ -81,7 +82,7 @@ fn list_defined(
     requires { All (IsHeld names.now) line.now }
     ensures { IfOk result (λ found. (ts : List Lexeme) → map (lexeme_at names.now) line.now ≡ map Some ts → option_map (λ v. map seen_item v.items) found ≡ list_defined ts) }
 {
-    match read_define(alloc, names, line) {
+    match read_define(alloc, names, Standard::C11, line) {
         Ok(definition) => spelled_list(alloc, names, &definition.replacement),
         Err(DefineStop::Fault(_)) => Ok(None),
         Err(DefineStop::OutOfMemory) => Err(OutOfMemory),

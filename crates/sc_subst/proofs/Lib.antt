@@ -1,3 +1,4 @@
+pub mod Commas
 pub mod Gluing
 pub mod GroupParts
 pub mod Later

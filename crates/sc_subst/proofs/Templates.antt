@@ -8,7 +8,7 @@ use Rattle.c11_macros.specs.Hidden.{Failure, HideSet, Provenance, failure_at}
 use Rattle.c11_macros.specs.Macros as macros
 use Rattle.c11_macros.specs.Results.{result_map, result_and_then}
 use Rattle.c11_macros.specs.Substitution as substitution
-use Rattle.c11_macros.specs.Substitution.{all_glued, argument, begins_paste, filled, glued, hiding, is_paste_next, is_text_kind, joined, literal_of, neither, parts, pasted_as, slots, spellings, stringized, substituted, tokens_of, wanted_places, with_space, put_together}
+use Rattle.c11_macros.specs.Substitution.{all_glued, argument, begins_paste, filled, glued, hiding, is_paste_next, list_slots, is_text_kind, joined, literal_of, pasted_as, slots, spellings, stringized, substituted, tokens_of, wanted_places, with_space, put_together}
 use Rattle.c11_tokens.specs.Relex.{relexed}
 use Rattle.sc_model.specs.Token as model_token
 use Rattle.sc_model.specs.declared.cause.Cause.{Cause}
@@ -61,6 +61,7 @@ wants_are {P} head raw b (substitution.parameter n space ∷ ps) =
     (if_ok _ _ (slots head raw ps)
     (λ ss h. (ap (λ next. if b || next then wanted_slots false ss else n ∷ wanted_slots false ss) h.1 ∙ ap (λ ns. if b || is_paste_next ps then ns else n ∷ ns) h.0, refl)) (wants_are head raw false ps))
 wants_are {P} head raw b (substitution.paste ∷ ps) = if_mapped _ (Want b (substitution.paste ∷ ps)) (slots head raw ps) (if_ok _ _ (slots head raw ps) (λ ss h. (h.0, refl)) (wants_are head raw true ps))
+wants_are {P} head raw b (substitution.comma item n ∷ ps) = if_mapped _ (Want b (substitution.comma item n ∷ ps)) (slots head raw ps) (if_ok _ _ (slots head raw ps) (λ ss h. (h.0, refl)) (wants_are head raw false ps))
 
 -- ---- the law
 
@@ -69,7 +70,7 @@ module _ {P : Type 0} (provenance : Provenance P) (form : macros.Form) (items : 
   abbrev finish : List (model.Hidden P) → List (model.Hidden P)
   finish ts = hiding provenance hidden (with_space head.space ts)
 
-  pub in_halves : (ss : List (substitution.Slot P)) (template : Result (List (substitution.Slot P)) (Failure P)) → slots head raw (parts form neither items) ≡ Ok ss
+  pub in_halves : (ss : List (substitution.Slot P)) (template : Result (List (substitution.Slot P)) (Failure P)) → list_slots head raw form items ≡ Ok ss
       → result_map tokens_of (all_glued head (filled raw expanded false ss)) ≡ result_map (filled_in expanded) template
       → substituted provenance form items head raw expanded hidden ≡ completed provenance head hidden expanded template
   in_halves ss template made glues =
@@ -118,6 +119,7 @@ module _ {P : Type 0} (head : model.Hidden P) where
       slot_err (substitution.literal n space) = err_mapped substitution.filled_by (IsOf (failure_at BadStringize head)) (stringized head space (argument raw n)) (literal_fails space (34 ∷ spellings (argument raw n) ++ 34 ∷ []))
       slot_err (substitution.parameter n space) = tt
       slot_err substitution.paste = tt
+      slot_err (substitution.comma item n) = tt
 
   pub slots_fail : (raw : List (List (model.Hidden P))) (ps : List substitution.Part) (failure : Failure P) → slots head raw ps ≡ Err failure → failure ≡ failure_at BadStringize head
   slots_fail raw ps failure is = subst (λ r. IfErr r (IsOf (failure_at BadStringize head))) is (slots_err raw ps)

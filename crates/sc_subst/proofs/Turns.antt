@@ -1,19 +1,21 @@
 -- What the tables hold of a definition, and what a part of its list makes.
-use Rattle.std.proofs.Common.{◌≡◌, ℕ, zero, suc, ◌∷◌, ◌++◌, List, [], map, get_or, slice_index_or, append_assoc, Result, Ok, Err, refl, sym, ap, ◌∙◌, arith}
+use Rattle.std.proofs.Common.{◌≡◌, ℕ, zero, suc, ◌∷◌, ◌++◌, List, [], map, get_or, slice_index_or, append_assoc, Option, Some, None, Result, Ok, Err, refl, sym, ap, ◌∙◌, arith}
 use Rattle.std.specs.Prelude.{All}
+use Rattle.std.specs.Option.{IfSome, option_map}
 use Rattle.c11_macros.specs.Hidden as model
 use Rattle.c11_macros.specs.Hidden.{Failure}
 use Rattle.c11_macros.specs.Macros as macros
 use Rattle.c11_macros.specs.Results.{result_map}
 use Rattle.c11_macros.specs.Substitution as substitution
-use Rattle.c11_macros.specs.Substitution.{neither, parts, slot_of, stringized, filled_by}
+use Rattle.c11_macros.specs.Substitution.{parts_of, slot_of, stringized, filled_by}
 use Rattle.sc_base.specs.declared.id.Name.{Name}
 use Rattle.sc_base.specs.declared.place.Place.{Place}
 use Rattle.sc_base.proofs.Growth.{Extends-within}
 use Rattle.sc_macro.specs.declared.definition.Item.{Item}
 use Rattle.sc_macro.specs.declared.form.Form.{Form}
 use Rattle.sc_macro.specs.declared.form.Form.TheVariants.{Object, Function}
-use Rattle.sc_macro.specs.Seen.{AreHeld, IsHeldForm, IsHeldItem, seen_form, seen_item, text_of, texts_of}
+use Rattle.sc_macro.specs.declared.form.Rest.{Rest}
+use Rattle.sc_macro.specs.Seen.{AreHeld, IsHeldForm, IsHeldItem, IsHeldRest, IsRestName, rest_name, seen_form, seen_item, seen_rest, text_of, texts_of}
 use Rattle.sc_model.specs.declared.cause.Cause.{Cause}
 use Rattle.sc_model.specs.Growth.{Extends}
 use Rattle.sc_model.specs.Token.{name_of}
@@ -71,9 +73,19 @@ parameters_later {names} {later} [] held e = refl
 parameters_later {names} {later} (x ∷ xs) held e =
     ap (λ t. t ∷ texts_of later xs) (text_later x (held 0 x (omega arith)) e) ∙ ap (λ ts. text_of names x ∷ ts) (parameters_later xs (held_tail names x xs held) e)
 
+rest_later : {names later : List (List ℕ)} (rest : Option Rest) → IfSome rest (IsHeldRest names) → Extends names later → option_map (seen_rest later) rest ≡ option_map (seen_rest names) rest
+rest_later {names} {later} None held e = refl
+rest_later {names} {later} (Some rest) held e = ap (λ t. Some (record { name = t; deletes_comma = rest.deletes_comma })) (by rest.name held)
+  where
+    by : (name : Option Name) → IfSome name (IsRestName names) → rest_name later name ≡ rest_name names name
+    by None own = refl
+    by (Some name) own = text_later name own.0 e
+
 pub form_later : {names later : List (List ℕ)} (form : Form) → IsHeldForm names form → Extends names later → seen_form later form ≡ seen_form names form
 form_later {names} {later} Object held e = refl
-form_later {names} {later} (Function parameters variadic) held e = ap (λ ts. macros.function_like ts variadic) (parameters_later parameters.keys held e)
+form_later {names} {later} (Function parameters rest) held e =
+    ap (λ ts. macros.function_like ts (option_map (seen_rest later) rest)) (parameters_later parameters.keys held.0 e)
+    ∙ ap (macros.function_like (texts_of names parameters.keys)) (rest_later rest held.1 e)
 
 -- ---- the parts of a list
 
@@ -89,12 +101,14 @@ list_part_held {names} {later} (part.Token item) held e = item_held item held e
 list_part_held {names} {later} (part.Literal n hash) held e = tt
 list_part_held {names} {later} (part.Parameter n space) held e = tt
 list_part_held {names} {later} part.Paste held e = tt
+list_part_held {names} {later} (part.Comma item n) held e = item_held item held e
 
 list_part_later : {names later : List (List ℕ)} (p : ListPart) → IsHeldListPart names p → Extends names later → seen_list_part later p ≡ seen_list_part names p
 list_part_later {names} {later} (part.Token item) held e = ap substitution.token (item_later item held e)
 list_part_later {names} {later} (part.Literal n hash) held e = refl
 list_part_later {names} {later} (part.Parameter n space) held e = refl
 list_part_later {names} {later} part.Paste held e = refl
+list_part_later {names} {later} (part.Comma item n) held e = ap (λ i. substitution.comma i n) (item_later item held e)
 
 list_parts_later : {names later : List (List ℕ)} (ps : List ListPart) → All (IsHeldListPart names) ps → Extends names later → map (seen_list_part later) ps ≡ map (seen_list_part names) ps
 list_parts_later {names} {later} [] held e = refl
@@ -104,11 +118,11 @@ list_parts_later {names} {later} (p ∷ ps) held e =
 
 -- what the parts of a list are stays while the table grows
 pub parts_later : {names later : List (List ℕ)} (ps : List ListPart) (form : Form) (items : List Item) → All (IsHeldListPart names) ps → IsHeldForm names form → All (IsHeldItem names) items
-    → map (seen_list_part names) ps ≡ parts (seen_form names form) neither (map (seen_item names) items) → Extends names later
-    → map (seen_list_part later) ps ≡ parts (seen_form later form) neither (map (seen_item later) items)
+    → map (seen_list_part names) ps ≡ parts_of (seen_form names form) (map (seen_item names) items) → Extends names later
+    → map (seen_list_part later) ps ≡ parts_of (seen_form later form) (map (seen_item later) items)
 parts_later {names} {later} ps form items held held_form held_items is e =
     list_parts_later ps held e ∙ (is
-    ∙ (ap (λ is. parts (seen_form names form) neither is) (sym (items_later items held_items e)) ∙ ap (λ f. parts f neither (map (seen_item later) items)) (sym (form_later form held_form e))))
+    ∙ (ap (parts_of (seen_form names form)) (sym (items_later items held_items e)) ∙ ap (λ f. parts_of f (map (seen_item later) items)) (sym (form_later form held_form e))))
 
 -- the literal of an argument, whatever was answered
 pub literal_is : (n : ℕ) (hash : Item) (names : List (List ℕ)) (sets : List (List Name)) (raw : List (List Hidden)) (place : Place)

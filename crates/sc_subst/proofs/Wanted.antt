@@ -242,6 +242,7 @@ wanted_step names wanted behind (list.Parameter n space) ps = at (behind || subs
     at true = refl
     at false = refl
 wanted_step names wanted behind list.Paste ps = refl
+wanted_step names wanted behind (list.Comma item n) ps = refl
 
 -- one turn of the loop
 pub wanted_turn : (names : List (List ℕ)) (parts : List ListPart) (i : ℕ) (d : ListPart) (wanted new : List ℕ) (behind next : Bool) (found : Option ℕ) → i < length parts

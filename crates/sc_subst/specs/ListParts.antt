@@ -6,6 +6,8 @@ use Rattle.c11_macros.specs.Substitution.{is_paste_next}
 use Rattle.sc_macro.specs.Seen.{IsHeldItem, seen_item}
 use Rattle.sc_subst.specs.declared.parts.Before.{Before}
 use Rattle.sc_subst.specs.declared.parts.Before.TheVariants as before
+use Rattle.sc_subst.specs.declared.parts.Joint.{Joint}
+use Rattle.sc_subst.specs.declared.parts.Joint.TheVariants as joint
 use Rattle.sc_subst.specs.declared.parts.ListPart.{ListPart}
 use Rattle.sc_subst.specs.declared.parts.ListPart.TheVariants as part
 
@@ -14,14 +16,21 @@ seen_before before.Neither = substitution.neither
 seen_before before.Paste = substitution.after_paste
 seen_before (before.Hash item) = substitution.after_hash item.space
 
+abbrev pub seen_joint : Joint → substitution.Joint
+seen_joint joint.Apart = substitution.apart
+seen_joint joint.Paste = substitution.behind_paste
+seen_joint joint.Comma = substitution.behind_comma
+
 abbrev pub seen_list_part : List (List ℕ) → ListPart → substitution.Part
 seen_list_part names (part.Token item) = substitution.token (seen_item names item)
 seen_list_part names (part.Literal n hash) = substitution.literal n hash.space
 seen_list_part names (part.Parameter n space) = substitution.parameter n space
 seen_list_part names part.Paste = substitution.paste
+seen_list_part names (part.Comma item n) = substitution.comma (seen_item names item) n
 
 abbrev pub IsHeldListPart : List (List ℕ) → ListPart → Type 0
 IsHeldListPart names (part.Token item) = IsHeldItem names item
+IsHeldListPart names (part.Comma item n) = IsHeldItem names item
 IsHeldListPart names _ = Unit {0}
 
 abbrev pub is_paste_part : ListPart → Bool

@@ -1,22 +1,29 @@
 //! The parts of a macro's list (C11 6.10.3.1 to 6.10.3.3), and which arguments it wants expanded.
-ghost use Rattle.std.specs.Prelude.{◌≡◌, ℕ, ◌&&◌, ◌||◌, ◌++◌, ◌∷◌, false, List, Some, None, All, IfOk, OnOk, if◌then◌else◌, map, not, option_to_list};
+ghost use Rattle.std.specs.Prelude.{◌≡◌, ℕ, ◌&&◌, ◌||◌, ◌++◌, ◌∷◌, false, List, Some, None, All, IfOk, OnOk, codes, if◌then◌else◌, map, not, option_to_list};
+ghost use Rattle.std.specs.Option.{option_map};
+ghost use Rattle.sc_base.specs.declared.id.Name as Name;
+ghost use Rattle.sc_model.specs.Bytes.{same_bytes};
+ghost use Rattle.sc_subst.specs.Parts.{seen_arguments};
 ghost use Rattle.c11_macros.specs.Substitution as substitution;
 ghost use Rattle.c11_macros.specs.Substitution.{begins_with_parameter, each_once, is_after_paste, is_hash, is_paste, is_paste_next, wanted_of, wanted_places};
 ghost use Rattle.sc_macro.specs.Seen.{IsHeldForm, IsHeldItem, seen_form, seen_item};
-ghost use Rattle.sc_subst.specs.ListParts.{IsHeldListPart, is_paste_part, place_of, seen_before, seen_list_part, with_one_more};
+ghost use Rattle.sc_subst.specs.ListParts.{IsHeldListPart, is_paste_part, place_of, seen_before, seen_joint, seen_list_part, with_one_more};
 
-use sc_base::{Names, OutOfMemory};
+use crate::Tokens;
+use crate::slots::argument;
+use sc_base::{Names, OutOfMemory, is_same};
 use sc_macro::{Form, Item};
 use std::alloc::{AllocError, Global};
 
 /// What stands in a list: a token of its own, a `#` with its parameter, a parameter, or a `##` that
-/// joins its neighbours.
+/// joins its neighbours; a comma that is deleted where an argument is empty.
 #[derive(Clone, Copy, Debug, PartialEq, Eq)]
 pub enum ListPart {
     Token(Item),
     Literal { parameter: usize, hash: Item },
     Parameter { parameter: usize, space: bool },
     Paste,
+    Comma { item: Item, parameter: usize },
 }
 
 /// What stands before an item: neither operator, a `##`, or a `#` that makes a literal of it.
@@ -27,8 +34,156 @@ pub enum Before {
     Hash(Item),
 }
 
-/// The parts of a list.
+/// The parts of a macro's list.
 pub fn parts(
+    alloc: Global,
+    names: &Names,
+    form: &Form,
+    items: &[Item],
+) -> Result<Vec<ListPart>, AllocError>
+    requires form { IsHeldForm names.now form.now }
+    requires items { All (IsHeldItem names.now) items.now }
+    ensures is { IfOk result (λ made. map (seen_list_part names.now) made.items
+        ≡ substitution.parts_of (seen_form names.now form.now) (map (seen_item names.now) items.now)) }
+    ensures own { IfOk result (λ made. All (IsHeldListPart names.now) made.items) }
+{
+    let parts = operands(alloc, names, form, items)?;
+    match form.deleting_rest() {
+        Some(rest) => with_commas(alloc, names, rest, &parts),
+        None => Ok(parts),
+    }
+}
+
+/// What stands before a part: a `##`, a comma that may be deleted, or neither.
+#[derive(Clone, Copy, Debug, PartialEq, Eq)]
+pub enum Joint {
+    Apart,
+    Paste,
+    Comma,
+}
+
+/// The parts, where a comma before `##` and the rest may be deleted, and that `##` pastes nothing.
+fn with_commas(
+    alloc: Global,
+    names: &Names,
+    rest: usize,
+    parts: &[ListPart],
+) -> Result<Vec<ListPart>, AllocError>
+    requires { All (IsHeldListPart names.now) parts.now }
+    ensures is { IfOk result (λ made. map (seen_list_part names.now) made.items
+        ≡ substitution.with_commas (Some rest) substitution.apart (map (seen_list_part names.now) parts.now)) }
+    ensures own { IfOk result (λ made. All (IsHeldListPart names.now) made.items) }
+{
+    let mut made = Vec::new(alloc);
+    let mut before = Joint::Apart;
+    for (i, part) in parts.iter().enumerate() {
+        let turn = next_joint(names, rest, before, part, &parts[i + 1..]);
+        before = turn.before;
+        push(&mut made, turn.made)?;
+    }
+    Ok(made)
+}
+
+/// The part that is made of one, if any is, and what stands before the next.
+#[derive(Clone, Copy)]
+struct JointTurn {
+    made: Option<ListPart>,
+    before: Joint,
+}
+
+fn next_joint(
+    names: &Names,
+    rest: usize,
+    before: Joint,
+    part: &ListPart,
+    behind: &[ListPart],
+) -> JointTurn
+    requires { IsHeldListPart names.now part.now }
+    ensures is { substitution.with_commas (Some rest) (seen_joint before) (map (seen_list_part names.now) (part.now ∷ behind.now))
+        ≡ map (seen_list_part names.now) (option_to_list result.made)
+        ++ substitution.with_commas (Some rest) (seen_joint result.before) (map (seen_list_part names.now) behind.now) }
+    ensures own { All (IsHeldListPart names.now) (option_to_list result.made) }
+{
+    if matches!(before, Joint::Comma) {
+        return JointTurn {
+            made: None,
+            before: Joint::Apart,
+        };
+    }
+    if let Some(comma) = comma(names, rest, before, part, behind) {
+        return JointTurn {
+            made: Some(comma),
+            before: Joint::Comma,
+        };
+    }
+    JointTurn {
+        made: Some(*part),
+        before: part.joint(names),
+    }
+}
+
+/// The comma that a part is, where it may be deleted.
+fn comma(
+    names: &Names,
+    rest: usize,
+    before: Joint,
+    part: &ListPart,
+    behind: &[ListPart],
+) -> Option<ListPart>
+    requires { IsHeldListPart names.now part.now }
+    ensures is { option_map (seen_list_part names.now) result
+        ≡ substitution.comma_of (Some rest) (seen_joint before) (seen_list_part names.now part.now) (map (seen_list_part names.now) behind.now) }
+    ensures own { All (IsHeldListPart names.now) (option_to_list result) }
+{
+    match (before, part) {
+        (Joint::Apart, ListPart::Token(item))
+            if is_comma(names, item) && is_rest_next(rest, behind) => {
+            Some(ListPart::Comma {
+                item: *item,
+                parameter: rest,
+            })
+        }
+        _ => None,
+    }
+}
+
+/// Whether `##` and the rest come next, and then no `##`.
+fn is_rest_next(rest: usize, parts: &[ListPart]) -> bool
+    ensures { (names : List (List ℕ)) → result ≡ substitution.is_rest_next rest (map (seen_list_part names) parts.now) }
+{
+    match parts {
+        [first, second, behind @ ..] => is_pasted_rest(rest, first, second, behind),
+        _ => false,
+    }
+}
+
+/// The same of a list with two parts at least.
+fn is_pasted_rest(rest: usize, first: &ListPart, second: &ListPart, behind: &[ListPart]) -> bool
+    ensures { (names : List (List ℕ)) → result ≡ substitution.is_rest_next rest (map (seen_list_part names) (first.now ∷ second.now ∷ behind.now)) }
+{
+    match (first, second) {
+        (ListPart::Paste, ListPart::Parameter { parameter, .. }) => {
+            rest == *parameter && !begins_paste(behind)
+        }
+        _ => false,
+    }
+}
+
+fn is_comma(names: &Names, item: &Item) -> bool
+    requires { IsHeldItem names.now item.now }
+    ensures { result ≡ same_bytes (seen_item names.now item.now).spelling (codes ",") }
+{
+    is_same(names.text(item.spelling), b",")
+}
+
+fn begins_paste(parts: &[ListPart]) -> bool
+    ensures { (names : List (List ℕ)) → result ≡ is_paste_next (map (seen_list_part names) parts.now) }
+{
+    matches!(parts, [ListPart::Paste, ..])
+}
+
+/// Operands and operators, as they stand in a list.
+fn operands(
     alloc: Global,
     names: &Names,
     form: &Form,
@@ -188,7 +343,7 @@ fn wants(behind: bool, part: &ListPart, rest: &[ListPart]) -> Option<usize>
 fn is_beside(behind: bool, rest: &[ListPart]) -> bool
     ensures { (names : List (List ℕ)) → result ≡ (behind || is_paste_next (map (seen_list_part names) rest.now)) }
 {
-    behind || matches!(rest, [ListPart::Paste, ..])
+    behind || begins_paste(rest)
 }
 
 fn add(wanted: &mut Vec<usize>, parameter: Option<usize>) -> Result<(), AllocError>
@@ -207,5 +362,28 @@ impl ListPart {
         ensures { result ≡ is_paste_part self.now }
     {
         matches!(self, ListPart::Paste)
+    }
+
+    /// What the part is to the one behind it.
+    fn joint(&self, names: &Names) -> Joint
+        requires { IsHeldListPart names.now self.now }
+        ensures { seen_joint result ≡ substitution.joint_of (seen_list_part names.now self.now) }
+    {
+        match self {
+            ListPart::Paste => Joint::Paste,
+            ListPart::Token(item) if item.is_paste(names) => Joint::Paste,
+            _ => Joint::Apart,
+        }
+    }
+
+    /// Whether the part is a comma that these arguments delete.
+    pub fn is_deleted(&self, raw: &[Tokens]) -> bool
+        ensures { (names : List (List ℕ)) (sets : List (List Name.Name)) → result
+            ≡ substitution.is_deleted (seen_arguments names sets raw.now) (seen_list_part names self.now) }
+    {
+        match self {
+            ListPart::Comma { parameter, .. } => argument(raw, *parameter).is_empty(),
+            _ => false,
+        }
     }
 }

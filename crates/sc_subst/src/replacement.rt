@@ -3,7 +3,7 @@ ghost use Rattle.std.specs.Prelude.{◌≡◌, List, Ok, Err, All, IfErr, IfOk, 
 ghost use Rattle.c11_macros.specs.Hidden as model;
 ghost use Rattle.c11_macros.specs.Hidden.{HideSet, Provenance, failure_at};
 ghost use Rattle.c11_macros.specs.Substitution as substitution;
-ghost use Rattle.c11_macros.specs.Substitution.{neither, substituted, wanted_of};
+ghost use Rattle.c11_macros.specs.Substitution.{substituted, wanted_of};
 ghost use Rattle.sc_base.specs.declared.place.Place as declared;
 ghost use Rattle.sc_macro.specs.Seen.{IsHeldForm, IsHeldItem, seen_form, seen_item};
 ghost use Rattle.sc_model.specs.declared.cause.Cause.TheVariants.{BadPaste, BadStringize};
@@ -45,7 +45,7 @@ pub fn template(
     ensures wanted { IfOk result (λ parts. All (IsWantedPart (wanted_of (seen_form names.new form.now) (map (seen_item names.new) items.now))) parts.items) }
     ensures own { IfOk result (λ parts. All (IsHeldPart names.new sets.new) parts.items) }
     ensures err { IfErr result (λ stop. OnFault stop (λ cause. Lasting names.new sets.new (λ names sets. (head : model.Hidden declared.Place) → head.place ≡ place → OnOperator cause
-        (substitution.slots head (seen_arguments names sets raw.now) (substitution.parts (seen_form names form.now) neither (map (seen_item names) items.now)) ≡ Err (failure_at BadStringize head))
+        (substitution.list_slots head (seen_arguments names sets raw.now) (seen_form names form.now) (map (seen_item names) items.now) ≡ Err (failure_at BadStringize head))
         ((expanded : List (List (model.Hidden declared.Place))) (provenance : Provenance declared.Place) (hidden : HideSet)
         → substituted provenance (seen_form names form.now) (map (seen_item names) items.now) head (seen_arguments names sets raw.now) expanded hidden ≡ Err (failure_at BadPaste head))))) }
 

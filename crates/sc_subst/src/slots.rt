@@ -3,7 +3,7 @@ ghost use Rattle.std.specs.Prelude.{◌≡◌, ℕ, List, Ok, Err, All, IfErr, I
 ghost use Rattle.c11_macros.specs.Hidden as model;
 ghost use Rattle.c11_macros.specs.Hidden.{failure_at};
 ghost use Rattle.c11_macros.specs.Substitution as substitution;
-ghost use Rattle.c11_macros.specs.Substitution.{listed, neither, slot_of, slots};
+ghost use Rattle.c11_macros.specs.Substitution.{kept, list_slots, listed, slot_of, slots};
 ghost use Rattle.sc_base.specs.declared.place.Place as declared;
 ghost use Rattle.sc_macro.specs.Seen.{IsHeldForm, IsHeldItem, seen_form, seen_item};
 ghost use Rattle.sc_model.specs.Growth.{Extends};
@@ -50,10 +50,10 @@ pub fn slots(
     requires items { All (IsHeldItem names.old) items.now }
     requires raw { AreHeldArguments names.old sets.now raw.now }
     ensures ok { IfOk result (λ made. Lasting names.new sets.now (λ names sets. (head : model.Hidden declared.Place) → head.place ≡ place
-        → slots head (seen_arguments names sets raw.now) (substitution.parts (seen_form names form.now) neither (map (seen_item names) items.now)) ≡ Ok (map (seen_slot names sets) made.items))) }
+        → list_slots head (seen_arguments names sets raw.now) (seen_form names form.now) (map (seen_item names) items.now) ≡ Ok (map (seen_slot names sets) made.items))) }
     ensures own { IfOk result (λ made. All (IsHeldSlot names.new sets.now) made.items) }
     ensures err { IfErr result (λ stop. OnFault stop (λ cause. Lasting names.new sets.now (λ names sets. (head : model.Hidden declared.Place) → head.place ≡ place
-        → slots head (seen_arguments names sets raw.now) (substitution.parts (seen_form names form.now) neither (map (seen_item names) items.now)) ≡ Err (failure_at cause head)))) }
+        → list_slots head (seen_arguments names sets raw.now) (seen_form names form.now) (map (seen_item names) items.now) ≡ Err (failure_at cause head)))) }
 
     // at every outcome
     ensures names { Extends names.old names.new }
@@ -73,16 +73,19 @@ fn slots_from(
     requires parts { All (IsHeldListPart names.old) parts.now }
     requires raw { AreHeldArguments names.old sets.now raw.now }
     ensures ok { IfOk result (λ made. Lasting names.new sets.now (λ names sets. (head : model.Hidden declared.Place) → head.place ≡ place
-        → slots head (seen_arguments names sets raw.now) (map (seen_list_part names) parts.now) ≡ Ok (map (seen_slot names sets) made.items))) }
+        → slots head (seen_arguments names sets raw.now) (kept (seen_arguments names sets raw.now) (map (seen_list_part names) parts.now)) ≡ Ok (map (seen_slot names sets) made.items))) }
     ensures own { IfOk result (λ made. All (IsHeldSlot names.new sets.now) made.items) }
     ensures err { IfErr result (λ stop. OnFault stop (λ cause. Lasting names.new sets.now (λ names sets. (head : model.Hidden declared.Place) → head.place ≡ place
-        → slots head (seen_arguments names sets raw.now) (map (seen_list_part names) parts.now) ≡ Err (failure_at cause head)))) }
+        → slots head (seen_arguments names sets raw.now) (kept (seen_arguments names sets raw.now) (map (seen_list_part names) parts.now)) ≡ Err (failure_at cause head)))) }
 
     // at every outcome
     ensures names { Extends names.old names.new }
 {
     let mut made = Vec::new(alloc);
     for part in parts {
+        if part.is_deleted(raw) {
+            continue;
+        }
         match slot_from(alloc, sets, names, part, raw, place) {
             Ok(slot) => made.push(slot)?,
             Err(stop) => return Err(stop),
@@ -112,6 +115,7 @@ fn slot_from(
 {
     match *part {
         ListPart::Token(item) => Ok(Slot::Token(own_token(sets, &item, place))),
+        ListPart::Comma { item, .. } => Ok(Slot::Token(own_token(sets, &item, place))),
         ListPart::Parameter { parameter, space } => Ok(Slot::Parameter { parameter, space }),
         ListPart::Paste => Ok(Slot::Paste),
         ListPart::Literal { parameter, hash } => {

@@ -14,7 +14,8 @@ use Rattle.sc_macro.specs.declared.definition.Replacement.{Replacement}
 use Rattle.sc_macro.specs.declared.definition.Replacement.TheVariants.{Items, FileName, LineNumber}
 use Rattle.sc_macro.specs.declared.form.Form.{Form}
 use Rattle.sc_macro.specs.declared.form.Form.TheVariants.{Object, Function}
-use Rattle.sc_macro.specs.Seen.{text_of, texts_of, AreHeld, seen_item, IsHeldItem, seen_form, IsHeldForm, seen_replacement, IsHeldReplacement, seen_definition, IsHeldDefinition}
+use Rattle.sc_macro.specs.declared.form.Rest.{Rest}
+use Rattle.sc_macro.specs.Seen.{text_of, texts_of, AreHeld, IsHeldRest, IsRestName, rest_name, seen_rest, seen_item, IsHeldItem, seen_form, IsHeldForm, seen_replacement, IsHeldReplacement, seen_definition, IsHeldDefinition}
 use Rattle.sc_model.specs.Bytes.{same_bytes}
 use Rattle.sc_model.specs.Growth.{Extends, IsOneToOne}
 use Rattle.sc_model.specs.Sets.{Sets, IsConfig, Keeps}
@@ -83,9 +84,19 @@ module _ {names more : List (List ℕ)} (grows : Extends names more) where
       ap (λ t. record { kind = i.kind; spelling = t; space = i.space } ∷ map (seen_item more) is) (text_of-Extends i.spelling (All-head (IsHeldItem names) i is held).spelling)
       ∙ ap (λ ts. seen_item names i ∷ ts) (items-Extends is (All-tail (IsHeldItem names) i is held))
 
+  rest_name-Extends : (n : Option Name) → IfSome n (IsRestName names) → rest_name more n ≡ rest_name names n
+  rest_name-Extends None held = refl
+  rest_name-Extends (Some n) held = text_of-Extends n held.0
+
+  seen_rest-Extends : (r : Option Rest) → IfSome r (IsHeldRest names) → option_map (seen_rest more) r ≡ option_map (seen_rest names) r
+  seen_rest-Extends None held = refl
+  seen_rest-Extends (Some r) held = ap (λ t. Some (record { name = t; deletes_comma = r.deletes_comma })) (rest_name-Extends r.name held)
+
   seen_form-Extends : (f : Form) → IsHeldForm names f → seen_form more f ≡ seen_form names f
   seen_form-Extends Object held = refl
-  seen_form-Extends (Function parameters variadic) held = ap (λ ts. model.function_like ts variadic) (texts_of-Extends parameters.keys held)
+  seen_form-Extends (Function parameters rest) held =
+      ap (λ ts. model.function_like ts (option_map (seen_rest more) rest)) (texts_of-Extends parameters.keys held.0)
+      ∙ ap (model.function_like (texts_of names parameters.keys)) (seen_rest-Extends rest held.1)
 
   seen_replacement-Extends : (r : Replacement) → IsHeldReplacement names r → seen_replacement more r ≡ seen_replacement names r
   seen_replacement-Extends (Items list) held = ap (λ is. model.items is) (items-Extends list.items held)
@@ -104,9 +115,17 @@ module _ {names more : List (List ℕ)} (grows : Extends names more) where
     stands_for = text_of-Extends i.name held.name ∙ held.stands_for ∙ ap name_of (sym (text_of-Extends i.spelling held.spelling));
   }
 
+  IsRestName-Extends : (n : Option Name) → IfSome n (IsRestName names) → IfSome n (IsRestName more)
+  IsRestName-Extends None held = tt
+  IsRestName-Extends (Some n) held = (omega (arith, held.0, grows.longer), λ is. held.1 (sym (text_of-Extends n held.0) ∙ is))
+
+  IsHeldRest-Extends : (r : Option Rest) → IfSome r (IsHeldRest names) → IfSome r (IsHeldRest more)
+  IsHeldRest-Extends None held = tt
+  IsHeldRest-Extends (Some r) held = IsRestName-Extends r.name held
+
   IsHeldForm-Extends : (f : Form) → IsHeldForm names f → IsHeldForm more f
   IsHeldForm-Extends Object held = tt
-  IsHeldForm-Extends (Function parameters variadic) held = λ k d h. omega (arith, held k d h, grows.longer)
+  IsHeldForm-Extends (Function parameters rest) held = (λ k d h. omega (arith, held.0 k d h, grows.longer), IsHeldRest-Extends rest held.1)
 
   IsHeldReplacement-Extends : (r : Replacement) → IsHeldReplacement names r → IsHeldReplacement more r
   IsHeldReplacement-Extends (Items list) held = λ k d h. IsHeldItem-Extends _ (held k d h)

@@ -7,7 +7,7 @@ use Rattle.sc_macro.proofs.head.listed_parameters.Given as goal
 -- what is left says behind the parameters so far what the whole says
 abbrev pub invariant-loop-at : goal.invariant-loop-at
 invariant-loop-at l = record {
-  left : model.parameters_after (texts_of l.names l.parameters.keys) (map (seen l.names []) (drop l.at l.line)) ≡ model.parameters_after [] (map (seen l.names []) l.line);
+  left : model.parameters_after l.standard (texts_of l.names l.parameters.keys) (map (seen l.names []) (drop l.at l.line)) ≡ model.parameters_after l.standard [] (map (seen l.names []) l.line);
   within : l.at ≤ length l.line;
   own : AreHeld l.names l.parameters.keys;
 }

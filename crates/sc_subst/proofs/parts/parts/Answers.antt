@@ -1,9 +1,9 @@
-use Rattle.sc_subst.proofs.PartTurns.{parts_turn}
+use Rattle.std.proofs.Common.{◌∙◌, map, sym}
+use Rattle.sc_macro.specs.Seen.{seen_form, seen_item}
+use Rattle.sc_subst.proofs.Commas.{no_rest}
 use Rattle.sc_subst.proofs.parts.parts.Goals as goal
 
-pub loop-i-preserved : goal.loop-i-preserved
-loop-i-preserved c = record {
-  own = c.in_ok-push.ensures.own c.args.names.now c.loop-i.invariant.own c.next-turn.ensures.own;
-  is = parts_turn c.args.names.now c.args.form.now c.args.items.now c.loop-i.i c.loop-i.before c.next-turn.result c.loop-i.made.items c.push.new.made.items c.loop-i-test.true
-      c.loop-i.invariant.is c.next-turn.ensures.is (c.in_ok-push.ensures.is c.args.names.now);
-}
+pub returns-in-None-clause-is : goal.returns-in-None-clause-is
+returns-in-None-clause-is c =
+    let names = c.args.names.now in
+    c.in_ok-parts.ensures.is ∙ sym (no_rest (seen_form names c.args.form.now) (map (seen_item names) c.args.items.now) (sym (c.deleting_rest.ensures names) ∙ c.in-None.is))

@@ -1,15 +1,16 @@
 use Rattle.std.proofs.Common.{◌∙◌, false, List, [], map, Ok, Err, ap, refl, sym, subst}
-use Rattle.std.specs.Prelude.{All}
+use Rattle.std.specs.Prelude.{All, Contains}
 use Rattle.c11_macros.specs.Hidden as model
 use Rattle.c11_macros.specs.Hidden.{failure_at, no_names}
 use Rattle.c11_macros.specs.Results.{result_map}
-use Rattle.c11_macros.specs.Substitution.{all_glued, filled, neither, parts, tokens_of, wanted_of}
+use Rattle.c11_macros.specs.Substitution.{all_glued, each_once, filled, kept, parts_of, tokens_of, wanted_of}
 use Rattle.sc_base.specs.declared.place.Place.{Place}
 use Rattle.sc_base.proofs.Growth.{Extends-refl, Extends-trans}
 use Rattle.sc_macro.specs.Seen.{seen_form, seen_item}
 use Rattle.sc_model.specs.declared.cause.Cause.TheVariants.{BadPaste, BadStringize}
 use Rattle.sc_model.specs.declared.kind.Kind.TheVariants.{Identifier}
 use Rattle.sc_subst.specs.Parts.{IsHeldSlot, seen_arguments, seen_part, seen_slot}
+use Rattle.sc_subst.proofs.Commas.{kept-wanted}
 use Rattle.sc_subst.proofs.Gluing.{arguments_later}
 use Rattle.sc_subst.proofs.Store.{if_err, if_ok}
 use Rattle.sc_subst.proofs.Templates.{by_hash, by_paste, cause_of, glue_fails, in_halves, slots_fail}
@@ -35,10 +36,11 @@ returns-in-Ok-clause-wanted c =
     let head : model.Hidden Place = record { kind = Identifier; spelling = []; space = false; place = c.args.place; hide = no_names } in
     if_ok _ _ c.glue.result
     (λ result h. parts_wanted n s (wanted_of (seen_form n c.args.form.now) (map (seen_item n) c.args.items.now)) result.items
-    (place_wanted head (seen_arguments n s c.args.raw.now) (parts (seen_form n c.args.form.now) neither (map (seen_item n) c.args.items.now)) (map (seen_slot n s) c.in-Ok.slots.items)
+    (λ k there. subst (λ ns. Contains (each_once ns) k) (kept-wanted (seen_arguments n s c.args.raw.now) (seen_form n c.args.form.now) (map (seen_item n) c.args.items.now))
+    (place_wanted head (seen_arguments n s c.args.raw.now) (kept (seen_arguments n s c.args.raw.now) (parts_of (seen_form n c.args.form.now) (map (seen_item n) c.args.items.now))) (map (seen_slot n s) c.in-Ok.slots.items)
     (c.in-Ok.ensures.ok.at n s c.glue.ensures.names c.glue.ensures.sets head refl) (map (seen_part n s) result.items)
     (λ xs. ap (λ ss. result_map tokens_of (all_glued head (filled (seen_arguments n s c.args.raw.now) xs false (map (seen_slot n s) ss)))) (sym c.deref.ensures.value)
-    ∙ h.at n s (Extends-refl n) (Extends-refl s) head xs))) c.glue.ensures.ok
+    ∙ h.at n s (Extends-refl n) (Extends-refl s) head xs) k there))) c.glue.ensures.ok
 
 pub returns-in-Ok-clause-err : goal.returns-in-Ok-clause-err
 returns-in-Ok-clause-err c =
@@ -63,7 +65,7 @@ returns-in-Err-clause-err c =
     (λ cause h. record {
       at = λ n s en es head at.
           let made = h.at n s en es head at in
-          let is = slots_fail head (seen_arguments n s c.args.raw.now) (parts (seen_form n c.args.form.now) neither (map (seen_item n) c.args.items.now)) (failure_at cause head) made in
+          let is = slots_fail head (seen_arguments n s c.args.raw.now) (kept (seen_arguments n s c.args.raw.now) (parts_of (seen_form n c.args.form.now) (map (seen_item n) c.args.items.now))) (failure_at cause head) made in
           by_hash cause _ _ (cause_of cause BadStringize head is) (made ∙ ap Err is);
     }) c.in-Err.ensures.err
 

@@ -11,6 +11,10 @@ pub returns-in-Token-clause-ok : goal.returns-in-Token-clause-ok
 returns-in-Token-clause-ok c =
     rw c.in-Token.is (record { at = λ n s en es head at. ap (λ t. Ok (filled_by t)) (sym ((c.own_token.ensures.is c.args.names.now).at n s en es head at)) })
 
+pub returns-in-Comma-clause-ok : goal.returns-in-Comma-clause-ok
+returns-in-Comma-clause-ok c =
+    rw c.in-Comma.is (record { at = λ n s en es head at. ap (λ t. Ok (filled_by t)) (sym ((c.own_token-in-Comma.ensures.is c.args.names.now).at n s en es head at)) })
+
 pub returns-in-Ok-clause-ok : goal.returns-in-Ok-clause-ok
 returns-in-Ok-clause-ok c =
     rw c.in-Literal.is (literal_is c.in-Literal.parameter c.in-Literal.hash c.stringize.new.names c.args.sets.now c.args.raw.now c.args.place (λ n s head. Ok (seen_hidden n s c.in-Ok.literal))

@@ -16,7 +16,7 @@ returns-clause-ok c =
     if_ok _ _ c.slots_from.result
     (λ made h. record {
       at = λ n s en es head at.
-          ap (substitution.slots head (seen_arguments n s c.args.raw.now))
+          ap (λ ps. substitution.slots head (seen_arguments n s c.args.raw.now) (substitution.kept (seen_arguments n s c.args.raw.now) ps))
           (sym (parts_later c.in_ok-parts.parts.items c.args.form.now c.args.items.now c.in_ok-parts.ensures.own c.requires.form c.requires.items c.in_ok-parts.ensures.is (Extends-trans c.slots_from.ensures.names en))
           ∙ ap (map (seen_list_part n)) (sym c.deref.ensures.value))
           ∙ h.at n s en es head at;
@@ -28,7 +28,7 @@ returns-clause-err c =
     (λ stop k. on_fault _ _ stop
     (λ cause h. record {
       at = λ n s en es head at.
-          ap (substitution.slots head (seen_arguments n s c.args.raw.now))
+          ap (λ ps. substitution.slots head (seen_arguments n s c.args.raw.now) (substitution.kept (seen_arguments n s c.args.raw.now) ps))
           (sym (parts_later c.in_ok-parts.parts.items c.args.form.now c.args.items.now c.in_ok-parts.ensures.own c.requires.form c.requires.items c.in_ok-parts.ensures.is (Extends-trans c.slots_from.ensures.names en))
           ∙ ap (map (seen_list_part n)) (sym c.deref.ensures.value))
           ∙ h.at n s en es head at;

@@ -3,7 +3,7 @@ use Rattle.std.specs.Prelude.{All}
 use Rattle.c11_macros.specs.Substitution as substitution
 use Rattle.sc_macro.specs.Seen.{seen_form, seen_item}
 use Rattle.sc_subst.specs.ListParts.{IsHeldListPart, seen_before, seen_list_part}
-use Rattle.sc_subst.proofs.parts.parts.Given as goal
+use Rattle.sc_subst.proofs.parts.operands.Given as goal
 
 -- what was made, and what the rest makes
 abbrev pub invariant-loop-i : goal.invariant-loop-i
