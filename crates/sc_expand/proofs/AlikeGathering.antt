@@ -99,7 +99,7 @@ same-call {s} {names} {c} {d} list alike =
     let each = each-alike s c d list alike in
     let spelled = spelled-behind-each s s c d names names list list refl (λ k x h. refl) each in
     let from = conds-behind s s c d list list each in
-    record { ends = ap call_end spelled; places = λ i. 0 ∷ take (call_length (spelled i)) (from i) }
+    record { ends = ap call_end spelled; places = λ closes i. 0 ∷ take (call_length (spelled i)) (from i) }
 
 -- The call of a configuration stays while the stores grow and the list changes at others.
 module _ {old new : Stores} {files : ℕ} (before after : List (Cond × Hidden)) (grows : Grows old new) (held : AreHeld old files before)
@@ -122,7 +122,8 @@ pub each-same-call : {old new : Stores} {files : ℕ} {c d : List ℕ} (before a
     → IsSameCall old.sets old.names c d before → IsSameCall new.sets new.names c d after
 each-same-call {c = c} {d = d} before after grows held tokens at_c at_d same = record {
   ends = each-end before after grows held tokens c at_c ∙ (same.ends ∙ sym (each-end before after grows held tokens d at_d));
-  places = each-places before after grows held tokens c at_c ∙ (same.places ∙ sym (each-places before after grows held tokens d at_d));
+  places = λ closes.
+      each-places before after grows held tokens c at_c ∙ (same.places (sym (each-end before after grows held tokens c at_c) ∙ closes) ∙ sym (each-places before after grows held tokens d at_d));
 }
 
 -- ---- a call begins

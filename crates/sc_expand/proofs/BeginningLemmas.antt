@@ -1,6 +1,6 @@
 use Rattle.sc_expand.specs.Having.{tokens_in}
 -- What a template that was refused says, and lists of arguments.
-use Rattle.std.proofs.Common.{◌≡◌, ℕ, zero, suc, ◌+◌, ◌-◌, ◌<◌, ◌≤◌, ◌++◌, Bool, true, false, not, if◌then◌else◌, Option, Some, None, Result, Ok, Err, refl, subst, sym, ap, ◌∙◌, List, [], ◌∷◌, map, reverse, length, take, drop, get_or, All, arith}
+use Rattle.std.proofs.Common.{◌≡◌, ℕ, zero, suc, ◌+◌, ◌-◌, ◌<◌, ◌≤◌, ◌++◌, Bool, true, false, not, if◌then◌else◌, Option, Some, None, Result, Ok, Err, refl, subst, sym, ap, ◌∙◌, List, [], ◌∷◌, map, reverse, length, take, drop, get_or, All, arith, is_some}
 use Rattle.std.proofs.lemmas.List.{drop_more, length-drop, length-map, map-id, take-append-drop}
 use Rattle.std.proofs.Math.ListN.{get_or-map}
 use Rattle.std.proofs.lemmas.Option.{slice_get-get_or}
@@ -13,9 +13,9 @@ use Rattle.c11_macros.specs.Results.{result_and_then}
 use Rattle.c11_macros.specs.Call.{arguments_for, call_of}
 use Rattle.c11_macros.specs.Call.{Call as SomeCall}
 use Rattle.c11_macros.specs.Expansion.{call_case, case_of, defined_case, fitted_case, form_case, is_looked_up, list_of, looked_up_case, stays}
-use Rattle.c11_macros.specs.Macros.{Definition, Form, Macros, function_like}
+use Rattle.c11_macros.specs.Macros.{Definition, Form, Macros, Rest, function_like}
 use Rattle.sc_model.specs.Token.{Item}
-use Rattle.c11_macros.specs.Substitution.{Slot, argument, neither, parts, put_together, slots, substituted, wanted_of}
+use Rattle.c11_macros.specs.Substitution.{Slot, argument, kept, list_slots, parts_of, put_together, substituted, wanted_of}
 use Rattle.sc_base.proofs.Growth.{Extends-trans}
 use Rattle.sc_base.specs.declared.id.Cond.{Cond}
 use Rattle.sc_base.specs.declared.id.Name.{Name}
@@ -99,8 +99,8 @@ in_some {A} P r a is h = subst (λ r. IfSome r P) is h
 
 -- no # fails where the whole has not its failure
 pub no_hash : (provenance : Provenance Place) (form : Form) (items : List Item) (head : model.Hidden Place) (raw expanded : List (List (model.Hidden Place))) (hidden : HideSet)
-    → (substituted provenance form items head raw expanded hidden ≡ Err (failure_at cause.BadStringize head) → ⊥) → is_ok (slots head raw (parts form neither items)) ≡ true
-no_hash provenance form items head raw expanded hidden differs = by (slots head raw (parts form neither items)) (slots_fail head raw (parts form neither items)) differs
+    → (substituted provenance form items head raw expanded hidden ≡ Err (failure_at cause.BadStringize head) → ⊥) → is_ok (list_slots head raw form items) ≡ true
+no_hash provenance form items head raw expanded hidden differs = by (list_slots head raw form items) (slots_fail head raw (kept raw (parts_of form items))) differs
   where
     by : (made : Result (List (Slot Place)) (Failure Place)) → ((failure : Failure Place) → made ≡ Err failure → failure ≡ failure_at cause.BadStringize head)
         → (result_and_then (put_together provenance head raw expanded hidden) made ≡ Err (failure_at cause.BadStringize head) → ⊥) → is_ok made ≡ true
@@ -110,7 +110,7 @@ no_hash provenance form items head raw expanded hidden differs = by (slots head 
 module _ (names : List (List ℕ)) (sets : List (List Name)) (form : declared_form.Form) (items : List declared.Item) (raw : List (List Hidden)) (place : Place) where
   abbrev pub Fails : Cause → Type 0
   Fails x = Lasting names sets (λ names sets. (head : model.Hidden Place) → head.place ≡ place → OnOperator x
-      (slots head (seen_arguments names sets raw) (parts (seen_form names form) neither (map (seen_item names) items)) ≡ Err (failure_at cause.BadStringize head))
+      (list_slots head (seen_arguments names sets raw) (seen_form names form) (map (seen_item names) items) ≡ Err (failure_at cause.BadStringize head))
       ((expanded : List (List (model.Hidden Place))) (provenance : Provenance Place) (hidden : HideSet)
       → substituted provenance (seen_form names form) (map (seen_item names) items) head (seen_arguments names sets raw) expanded hidden ≡ Err (failure_at cause.BadPaste head)))
 
@@ -241,7 +241,7 @@ module _ (names : List (List ℕ)) (sets : List (List Name)) (provenance : Prove
   is_template items cond head close raw call s is begun =
       let t = seen_hidden names sets head in
       record {
-        stringized = ap (λ list. is_ok (slots t (seen_arguments names sets raw) (parts d.form neither list))) is ∙ begun.template.stringized t refl;
+        stringized = ap (λ list. is_ok (list_slots t (seen_arguments names sets raw) d.form list)) is ∙ begun.template.stringized t refl;
         completes = λ expanded hidden. ap (λ list. substituted provenance d.form list t (seen_arguments names sets raw) expanded hidden) is ∙ begun.template.completes s t expanded provenance hidden refl;
       }
 
@@ -261,20 +261,20 @@ module _ (names : List (List ℕ)) (sets : List (List Name)) (provenance : Prove
 
 -- ---- what the tokens of a call say of it
 
-module _ {P : Type 0} (macros : Macros) (t opener close : model.Hidden P) (between after : List (model.Hidden P)) (d : Definition) (parameters : List (List ℕ)) (variadic : Bool) where
+module _ {P : Type 0} (macros : Macros) (t opener close : model.Hidden P) (between after : List (model.Hidden P)) (d : Definition) (parameters : List (List ℕ)) (variadic : Option Rest) where
   -- a name that is looked up, with a parenthesis behind it and one that closes it
   pub call_is : is_looked_up t ≡ true → macros t.spelling ≡ Some d → d.form ≡ function_like parameters variadic → same_bytes opener.spelling (codes "(") ≡ true
       → (call : SomeCall P) → call_of (length parameters) 0 (between ++ close ∷ after) ≡ Some call → call.rest ≡ after
-      → case_of macros t (opener ∷ (between ++ close ∷ after)) ≡ fitted_case d close after (arguments_for parameters variadic (parted (length parameters) 0 between))
+      → case_of macros t (opener ∷ (between ++ close ∷ after)) ≡ fitted_case d close after (arguments_for parameters (is_some variadic) (parted (length parameters) 0 between))
   call_is looked_up defined form opens call calls ends =
       let rest = opener ∷ (between ++ close ∷ after) in
       let is = parted_call close after between (length parameters) 0 call calls ends in
       ap (λ b. looked_up_case macros b t.spelling rest) looked_up
       ∙ (ap (λ m. defined_case m rest) defined
       ∙ (ap (λ f. form_case d f rest) form
-      ∙ (ap (λ b. if b then call_case d parameters variadic (call_of (length parameters) 0 (between ++ close ∷ after)) else stays) opens
-      ∙ (ap (call_case d parameters variadic) calls
-      ∙ (λ i. fitted_case d (is.close i) (ends i) (arguments_for parameters variadic (is.arguments i)))))))
+      ∙ (ap (λ b. if b then call_case d parameters (is_some variadic) (call_of (length parameters) 0 (between ++ close ∷ after)) else stays) opens
+      ∙ (ap (call_case d parameters (is_some variadic)) calls
+      ∙ (λ i. fitted_case d (is.close i) (ends i) (arguments_for parameters (is_some variadic) (is.arguments i)))))))
 
 -- ---- the tokens at places
 

@@ -1,11 +1,11 @@
 -- How a call goes on, as sc_hoist tells it, and what is to be done at its name.
-use Rattle.std.proofs.Common.{◌≡◌, ℕ, zero, suc, ◌&&◌, Bool, true, false, List, [], ◌∷◌, ◌++◌, map, take, drop, length, codes, Option, Some, None, refl, sym, ap, subst, ◌∙◌, if◌then◌else◌}
+use Rattle.std.proofs.Common.{◌≡◌, ℕ, zero, suc, ◌&&◌, Bool, true, false, List, [], ◌∷◌, ◌++◌, map, take, drop, length, codes, Option, Some, None, refl, sym, ap, subst, ◌∙◌, if◌then◌else◌, is_some}
 use Rattle.std.specs.List.{slice_get}
 use Rattle.c11_macros.specs.Call.{Call, arguments_for, call_of}
 use Rattle.c11_macros.specs.Expansion.{case_of, fitted_case, is_looked_up, stays, unclosed}
 use Rattle.c11_macros.specs.Hidden.{Hidden}
 use Rattle.c11_macros.specs.Defines.{is_function_like}
-use Rattle.c11_macros.specs.Macros.{Definition, Macros, function_like}
+use Rattle.c11_macros.specs.Macros.{Definition, Macros, Rest, function_like}
 use Rattle.c11_macros.specs.Runs.{is_function_named, is_last_name}
 use Rattle.sc_expand.proofs.BeginningLemmas.{call_is}
 use Rattle.sc_expand.proofs.PlainCases.{case-alone, case-bare, case-open}
@@ -82,10 +82,10 @@ module _ {P : Type 0} where
       by true opens None at e = absurd (let e2 : still ≡ closed = e in cc)
       by false opens o at e = absurd (let e2 : bare ≡ closed = e in cc)
 
-  module _ (macros : Macros) (t : Hidden P) (d : Definition) (looked : is_looked_up t ≡ true) (defined : macros t.spelling ≡ Some d) (parameters : List (List ℕ)) (variadic : Bool) (formed : d.form ≡ function_like parameters variadic) where
+  module _ (macros : Macros) (t : Hidden P) (d : Definition) (looked : is_looked_up t ≡ true) (defined : macros t.spelling ≡ Some d) (parameters : List (List ℕ)) (variadic : Option Rest) (formed : d.form ≡ function_like parameters variadic) where
     -- its arguments fit, or don't
     pub case-closed : (ts between : List (Hidden P)) (close : Hidden P) (after : List (Hidden P)) → IsCall ts between close after
-        → case_of macros t ts ≡ fitted_case d close after (arguments_for parameters variadic (parted (length parameters) 0 between))
+        → case_of macros t ts ≡ fitted_case d close after (arguments_for parameters (is_some variadic) (parted (length parameters) 0 between))
     case-closed ts between close after call =
         let ends = call.ends (length parameters) in
         ap (case_of macros t) call.is ∙ call_is macros t call.opener close between after d parameters variadic looked defined formed call.opens ends.call ends.is ends.rest

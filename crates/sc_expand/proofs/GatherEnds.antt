@@ -11,7 +11,7 @@ use Rattle.sc_base.specs.declared.stop.Stop.{Stop}
 use Rattle.sc_base.specs.declared.stop.Stop.TheVariants.{BranchesFull, ReadFault, OutOfMemory}
 use Rattle.std.proofs.lemmas.Bool.{and_parts}
 use Rattle.std.proofs.Math.Bool.{and-false}
-use Rattle.sc_expand.proofs.AlikeGathering.{each-same-call}
+use Rattle.sc_expand.proofs.AlikeGathering.{each-end, each-same-call}
 use Rattle.sc_expand.proofs.GatherBranches.{first-of-each}
 use Rattle.sc_expand.proofs.GatherCases.{case-still, case-uncalled-alone, case-uncalled-bare, last-alone, not-last, spellings}
 use Rattle.sc_expand.proofs.GatherPlaces.{spelled-behind}
@@ -94,9 +94,9 @@ stops-at {s} {t} {names} {hides} {files} cond {closes} list limit (BranchesFull 
         ends = λ k d h. (parts k d h).1;
         apart = λ i j d before within e.
             let early : i < length is.1.configs = omega (arith, before, within) in
-            let same : IsSameCall s names (get_or is.1.configs i d) (get_or is.1.configs j d) list = record { ends = (parts i d early).1 ∙ sym (parts j d within).1; places = e } in
+            let same : IsSameCall s names (get_or is.1.configs i d) (get_or is.1.configs j d) list = record { ends = (parts i d early).1 ∙ sym (parts j d within).1; places = λ closes. e } in
             let later : IsSameCall t names (get_or is.1.configs i d) (get_or is.1.configs j d) list = each-same-call list list grows held refl (has_each-Keeps list _ keeps held.own (listed i d early)) (has_each-Keeps list _ keeps held.own (listed j d within)) same in
-            is.1.apart i j d before within later.places;
+            is.1.apart i j d before within (later.places (each-end list list grows held refl _ (has_each-Keeps list _ keeps held.own (listed i d early)) ∙ (parts i d early).1));
       },
     )
 stops-at cond list limit ReadFault keeps held told is = is

@@ -1,9 +1,8 @@
 -- What is so of each token between the parentheses of a call is so of each token of its arguments.
 use Rattle.std.proofs.Common.{◌≡◌, ℕ, zero, suc, ◌<◌, ◌==◌, ◌&&◌, Bool, true, false, List, [], ◌∷◌, ◌++◌, All, map, length, Some, None, get_or, subst, if◌then◌else◌}
 use Rattle.std.proofs.lemmas.List.Elements.{All-append, All-cons, All-head, All-nil, All-tail}
-use Rattle.c11_macros.specs.Call.{Role, arguments_for, closing, comma, counts, filled_up, given, is_nothing, onto_argument, opening, other, role_of}
+use Rattle.c11_macros.specs.Call.{Role, arguments_for, closing, comma, counts_for, filled_up, given, is_nothing, onto_argument, opening, other, role_of}
 use Rattle.c11_macros.specs.Hidden as model
-use Rattle.c11_macros.specs.Macros.{function_like}
 use Rattle.sc_base.specs.declared.place.Place.{Place}
 use Rattle.sc_expand.specs.Arguments.{parted, parting_step}
 use Rattle.sc_expand.specs.Seen.{IsHeldToken, Stores}
@@ -54,7 +53,7 @@ module _ {P : Type 0} (F : model.Hidden P → Type 0) where
       by false = all
 
   each-fitting : (parameters : List (List ℕ)) (variadic : Bool) (lists fit : List (List (model.Hidden P))) → Each lists → arguments_for parameters variadic lists ≡ Some fit → Each fit
-  each-fitting parameters variadic lists fit all is = by (counts (function_like parameters variadic) (length (given parameters variadic lists))) is
+  each-fitting parameters variadic lists fit all is = by (counts_for parameters variadic (length (given parameters variadic lists))) is
     where
       made : List (List (model.Hidden P))
       made = filled_up parameters variadic (given parameters variadic lists)

@@ -7,7 +7,7 @@ use Rattle.c11_macros.specs.Hidden.{Failure, failure_at}
 use Rattle.c11_macros.specs.Macros.{list_at}
 use Rattle.sc_base.proofs.Growth.{Extends-refl}
 use Rattle.sc_base.specs.declared.place.Place.{Place}
-use Rattle.sc_expand.proofs.AlikeGathering.{each-same-call}
+use Rattle.sc_expand.proofs.AlikeGathering.{each-end, each-same-call}
 use Rattle.sc_expand.proofs.AlikeLemmas.{IsAlike-Keeps, IsAlikeIn-Keeps}
 use Rattle.sc_expand.proofs.GatherBranches.{called-later, spelled-same}
 use Rattle.sc_expand.proofs.GatherEnds.{Ending, end-behind, end-is, ended-first, ended-gathers, ended-other, macro-is}
@@ -204,7 +204,8 @@ module _ {s0 s1 s2 s3 : Sets} {names later : List (List ℕ)} {files : ℕ} {e :
         let own = parts.held.top.work.own in
         let two = and_parts (s0.has cond c) (is_end closed (call_end_at s0 names (tokens_in e.top.work) 0 c)) (sym (parts.closed_is.at c c1) ∙ is) in
         let later : IsSameCall s1 names c d e.top.work = each-same-call e.top.work e.top.work g01 parts.held.top.work refl (has_each-Keeps e.top.work c parts.first own at_c) (has_each-Keeps e.top.work d parts.first own at_d) (call two.0) in
-        (parts.agree c d c1 d1 closes-alike later.places).each
+        let closes = each-end e.top.work e.top.work g01 parts.held.top.work refl c (has_each-Keeps e.top.work c parts.first own at_c) ∙ end-is closed (call_end_at s0 names (tokens_in e.top.work) 0 c) two.1 in
+        (parts.agree c d c1 d1 closes-alike (later.places closes)).each
     branches-alike false is = λ k x h. lacking c c1 is k x h ∙ sym (lacking d d1 (sym closes-alike ∙ is) k x h)
 
     pub each-branch : All (λ (b : Branch). IsAlike s3 c d b.cond) branches

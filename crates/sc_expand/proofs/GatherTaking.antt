@@ -1,12 +1,12 @@
 -- The call of a branch is taken out of its list, and begins to wait or is refused.
-use Rattle.std.proofs.Common.{◌≡◌, ℕ, Bool, true, false, List, [], ◌∷◌, ◌++◌, All, map, drop, length, Option, Some, None, IsTrue, slice_get, refl, sym, ap, subst, ◌∙◌, if◌then◌else◌}
+use Rattle.std.proofs.Common.{◌≡◌, ℕ, Bool, true, false, List, [], ◌∷◌, ◌++◌, All, map, drop, length, Option, Some, None, IsTrue, slice_get, refl, sym, ap, subst, ◌∙◌, if◌then◌else◌, is_some}
 use Rattle.std.proofs.lemmas.List.Elements.{All-head, All-tail}
 use Rattle.c11_macros.specs.Call.{arguments_for}
 use Rattle.c11_macros.specs.Defines.{is_function_like}
 use Rattle.c11_macros.specs.Expansion.{called, case_of, fitted_case, misfit}
 use Rattle.c11_macros.specs.Hidden as model
 use Rattle.c11_macros.specs.Hidden.{Failure, Provenance, failure_at}
-use Rattle.c11_macros.specs.Macros.{Definition, Form, Macros, function_like, object_like}
+use Rattle.c11_macros.specs.Macros.{Definition, Form, Macros, Rest, function_like, object_like}
 use Rattle.sc_base.proofs.Growth.{Extends-refl, Extends-trans}
 use Rattle.sc_base.specs.declared.id.Cond.{Cond}
 use Rattle.sc_base.specs.declared.id.Name.{Name}
@@ -93,7 +93,7 @@ one-has false x y is = absurd (cc)
 
 pub record IsFunction (f : Form) : Type 0 where
   pub parameters : List (List ℕ)
-  pub variadic : Bool
+  pub variadic : Option Rest
   pub is : f ≡ function_like parameters variadic
 
 pub function-form : (f : Form) → IsTrue (is_function_like f) → IsFunction f
@@ -167,8 +167,8 @@ module _ {s0 s1 : Sets} {names : List (List ℕ)} {e0 e1 : Expansion} {branch : 
 
   -- what is to be done at the name of the call
   module _ (form : declared_form.Form) (items : List declared_item.Item) (head : Hidden) (is_branch : IsBranch old e0 branch) (function : IsTrue (is_function_like (seen_form names form))) (fit : Option (List (List Hidden)))
-      (fits : (parameters : List (List ℕ)) (variadic : Bool) → seen_form names form ≡ function_like parameters variadic
-      → seen_fit names e0.sets fit ≡ arguments_for parameters variadic (parted (length parameters) 0 (seen_list names e0.sets between))) where
+      (fits : (parameters : List (List ℕ)) (variadic : Option Rest) → seen_form names form ≡ function_like parameters variadic
+      → seen_fit names e0.sets fit ≡ arguments_for parameters (is_some variadic) (parted (length parameters) 0 (seen_list names e0.sets between))) where
     left-case : (c : List ℕ) (provenance : Provenance Place) (macros : Macros) (d : Definition) (rest : List (model.Hidden Place)) → IsConfig s0.arities c → s0.has branch.cond.0 c ≡ true
         → (at old e0 c).view.work ≡ seen_hidden names e0.sets head ∷ rest → IsMacro old provenance macros form items head d
         → case_of macros (seen_hidden names e0.sets head) rest ≡ fitted_case d (seen_hidden names e0.sets close) (seen_at mid e1.top.work c) (seen_fit names e0.sets fit)

@@ -93,3 +93,9 @@ pub mod SettledPlaces
 pub mod ClosingLemmas
 pub mod RestrictedLists
 pub mod SettlingLemmas
+pub mod KeptLemmas
+pub mod NamedItems
+pub mod PhasePairs
+pub mod PhaseTurns
+pub mod ThinLemmas
+pub mod PhaseKeeps

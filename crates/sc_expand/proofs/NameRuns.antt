@@ -218,7 +218,7 @@ module _ {P : Type 0} (provenance : Provenance P) (macros : Macros) where
     pub one : (taken ≡ []) ⊎ (front ≡ [])
     pub back : (done : List (Hidden P)) (end : End P) (u : Uses P) → StateRuns later t done end u → Before source s done end taken u
 
-  tail-is : (t : Hidden P) (rest front source : List (Hidden P)) → t ∷ rest ≡ front ++ source → (front ≡ [] → ⊥) → (tail : List (Hidden P)) × (rest ≡ tail ++ source) × (front ≡ t ∷ tail)
+  pub tail-is : (t : Hidden P) (rest front source : List (Hidden P)) → t ∷ rest ≡ front ++ source → (front ≡ [] → ⊥) → (tail : List (Hidden P)) × (rest ≡ tail ++ source) × (front ≡ t ∷ tail)
   tail-is t rest [] source is some = absurd (some refl)
   tail-is t rest (u ∷ us) source is some = (us, cc, cc)
 

@@ -1,12 +1,12 @@
 -- The call of a name that stands first in the whole list, as the run of the list tells it.
-use Rattle.std.proofs.Common.{◌≡◌, ◌⊎◌, inl, inr, ℕ, zero, suc, ◌+◌, ◌-◌, ◌<◌, ◌≤◌, Bool, true, false, List, [], ◌∷◌, ◌++◌, drop, length, take, Option, Some, None, IsTrue, refl, ap, subst, ◌∙◌, arith, if◌then◌else◌}
+use Rattle.std.proofs.Common.{◌≡◌, ◌⊎◌, inl, inr, ℕ, zero, suc, ◌+◌, ◌-◌, ◌<◌, ◌≤◌, Bool, true, false, List, [], ◌∷◌, ◌++◌, drop, length, take, Option, Some, None, IsTrue, refl, ap, subst, ◌∙◌, arith, if◌then◌else◌, is_some}
 use Rattle.std.proofs.lemmas.Bool.{cases_lt, le-ltb, lt-ltb}
 use Rattle.std.proofs.lemmas.List.{length-append}
 use Rattle.c11_macros.specs.Call.{arguments_for}
 use Rattle.c11_macros.specs.Defines.{is_function_like}
 use Rattle.c11_macros.specs.Expansion.{case_of, fitted_case, is_looked_up, stays, unclosed}
 use Rattle.c11_macros.specs.Hidden.{Hidden, Provenance}
-use Rattle.c11_macros.specs.Macros.{Definition, Form, Macros, function_like, object_like}
+use Rattle.c11_macros.specs.Macros.{Definition, Form, Macros, Rest, function_like, object_like}
 use Rattle.c11_macros.specs.Runs.{End, Uses}
 use Rattle.sc_base.specs.declared.id.Cond.{Cond}
 use Rattle.sc_expand.proofs.Behind.{below, below-items}
@@ -19,7 +19,7 @@ use Rattle.sc_expand.specs.Having.{behind_at}
 use Rattle.sc_expand.specs.Plain as plain
 use Rattle.sc_expand.specs.Plain.{Moves, State, scanning}
 use Rattle.sc_guarded.specs.Items.{items_at}
-use Rattle.sc_hoist.specs.Calls.{alone, bare, call_end, call_length, closed, still}
+use Rattle.sc_hoist.specs.Calls.{CallEnd, alone, bare, call_end, call_length, closed, still}
 use Rattle.sc_model.specs.Sets.{Sets}
 
 -- ---- the steps of one configuration
@@ -29,7 +29,7 @@ pub record Defined (o : Option Definition) : Type 0 where
   pub definition : Definition
   pub is : o ≡ Some definition
   pub parameters : List (List ℕ)
-  pub variadic : Bool
+  pub variadic : Option Rest
   pub formed : definition.form ≡ function_like parameters variadic
 
 pub function-of : (o : Option Definition) → IsFunctionLike o → Defined o
@@ -41,12 +41,12 @@ function-of (Some d) is = by d.form refl is
     by (function_like parameters variadic) formed is = record { definition = d; is = refl; parameters = parameters; variadic = variadic; formed = formed }
 
 module _ {P : Type 0} (provenance : Provenance P) (macros : Macros) where
-  stays-moves : (out rest : List (Hidden P)) (t : Hidden P) (s : State P) → case_of macros t rest ≡ stays → Moves provenance macros (scanning out (t ∷ rest)) s → s ≡ scanning (out ++ t ∷ []) rest
+  pub stays-moves : (out rest : List (Hidden P)) (t : Hidden P) (s : State P) → case_of macros t rest ≡ stays → Moves provenance macros (scanning out (t ∷ rest)) s → s ≡ scanning (out ++ t ∷ []) rest
   stays-moves out rest t _ case (plain.stay _ _ _ is) = refl
   stays-moves out rest t _ case (plain.object _ _ body _ d is made) = absurd (cc)
   stays-moves out rest t _ case (plain.gather _ _ after _ close d arguments template is stands) = absurd (cc)
 
-  unclosed-ends : (out rest : List (Hidden P)) (t : Hidden P) (s : State P) → case_of macros t rest ≡ unclosed → Moves provenance macros (scanning out (t ∷ rest)) s → ⊥
+  pub unclosed-ends : (out rest : List (Hidden P)) (t : Hidden P) (s : State P) → case_of macros t rest ≡ unclosed → Moves provenance macros (scanning out (t ∷ rest)) s → ⊥
   unclosed-ends out rest t _ case (plain.stay _ _ _ is) = cc
   unclosed-ends out rest t _ case (plain.object _ _ body _ d is made) = cc
   unclosed-ends out rest t _ case (plain.gather _ _ after _ close d arguments template is stands) = cc
@@ -57,12 +57,12 @@ module _ {P : Type 0} (provenance : Provenance P) (macros : Macros) where
         → m + length u.taken ≤ length source → call_end (spellings rest) ≡ closed → m + call_length (spellings rest) ≤ length rest
     closed-takes source front {u = u} m is some runs beyond ends =
         let count : length rest ≡ suc (length it.between + suc (length it.after)) = ap length it.call.is ∙ ap suc (length-append it.between (it.close ∷ it.after)) in
-        omega (arith, count, few (arguments_for d.parameters d.variadic (parted (length d.parameters) 0 it.between)) case, it.long, beyond)
+        omega (arith, count, few (arguments_for d.parameters (is_some d.variadic) (parted (length d.parameters) 0 it.between)) case, it.long, beyond)
       where
         it : Closed rest
         it = closed-call rest ends
 
-        case : case_of macros t rest ≡ fitted_case d.definition it.close it.after (arguments_for d.parameters d.variadic (parted (length d.parameters) 0 it.between))
+        case : case_of macros t rest ≡ fitted_case d.definition it.close it.after (arguments_for d.parameters (is_some d.variadic) (parted (length d.parameters) 0 it.between))
         case = case-closed macros t d.definition looked d.is d.parameters d.variadic d.formed rest it.between it.close it.after it.call
 
         closes : Closes provenance macros (case_of macros t rest) source u.taken
@@ -72,16 +72,12 @@ module _ {P : Type 0} (provenance : Provenance P) (macros : Macros) where
         few None case = subst (λ k. Closes provenance macros k source u.taken) case closes
         few (Some arguments) case = subst (λ k. Closes provenance macros k source u.taken) case closes
 
-    -- one that no parenthesis closes makes no step
-    pub still-ends : (s : State P) → call_end (spellings rest) ≡ still → Moves provenance macros (scanning out (t ∷ rest)) s → ⊥
-    still-ends s ends = unclosed-ends out rest t s (case-still macros t d.definition looked d.is d.parameters d.variadic d.formed rest ends)
-
-    -- the name is put out where it is not called
-    pub bare-moves : (s : State P) → call_end (spellings rest) ≡ bare → Moves provenance macros (scanning out (t ∷ rest)) s → s ≡ scanning (out ++ t ∷ []) rest
-    bare-moves s ends = stays-moves out rest t s (case-uncalled-bare macros t d.definition looked d.is d.parameters d.variadic d.formed rest ends)
-
-    pub alone-moves : (s : State P) → call_end (spellings rest) ≡ alone → Moves provenance macros (scanning out (t ∷ rest)) s → s ≡ scanning (out ++ t ∷ []) rest
-    alone-moves s ends = stays-moves out rest t s (case-uncalled-alone macros t d.definition looked d.is d.parameters d.variadic d.formed rest ends)
+    -- a name that no parenthesis closes stays, or its call is opens
+    pub uncalled-case : (end : CallEnd) → call_end (spellings rest) ≡ end → (end ≡ closed → ⊥) → (case_of macros t rest ≡ stays) ⊎ (case_of macros t rest ≡ unclosed)
+    uncalled-case closed ends opens = absurd (opens refl)
+    uncalled-case still ends opens = inr (case-still macros t d.definition looked d.is d.parameters d.variadic d.formed rest ends)
+    uncalled-case bare ends opens = inl (case-uncalled-bare macros t d.definition looked d.is d.parameters d.variadic d.formed rest ends)
+    uncalled-case alone ends opens = inl (case-uncalled-alone macros t d.definition looked d.is d.parameters d.variadic d.formed rest ends)
 
 -- ---- what stands in a span
 

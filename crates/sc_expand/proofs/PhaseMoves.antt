@@ -1,6 +1,6 @@
 -- A phase stays one through a turn: where the configurations stand, and which of its own items each
 -- has left.
-use Rattle.std.proofs.Common.{◌≡◌, ◌⊎◌, inl, inr, ℕ, suc, ◌+◌, ◌<◌, ◌≤◌, nat_lt, Bool, true, false, true≢false, List, [], ◌∷◌, ◌++◌, drop, length, map, Some, None, slice_get, take, refl, sym, ap, subst, ◌∙◌, arith, if◌then◌else◌}
+use Rattle.std.proofs.Common.{◌≡◌, ◌⊎◌, inl, inr, ℕ, ◌+◌, ◌<◌, ◌≤◌, Bool, true, false, true≢false, List, [], ◌∷◌, ◌++◌, drop, length, map, Some, None, slice_get, take, refl, sym, ap, subst, ◌∙◌, arith, if◌then◌else◌}
 use Rattle.std.proofs.lemmas.List.{drop-drop, take-append-le}
 use Rattle.std.proofs.lemmas.List.Elements.{All-pop}
 use Rattle.c11_macros.specs.Hidden as model
@@ -8,6 +8,7 @@ use Rattle.c11_macros.specs.Macros.{Macros}
 use Rattle.sc_base.specs.declared.id.Cond.{Cond}
 use Rattle.sc_base.specs.declared.place.Place.{Place}
 use Rattle.sc_expand.proofs.UnchangedLemmas.{never-empty}
+use Rattle.sc_expand.proofs.PhaseKeeps.{below-most}
 use Rattle.sc_expand.proofs.PhaseLists.{length-seen}
 use Rattle.sc_expand.proofs.Lower.{lower-all, lower-is, lower-min}
 use Rattle.sc_expand.proofs.Behind.{below, below-not, last-below, last-fewer, last-suffix, more-same}
@@ -39,16 +40,6 @@ use Rattle.sc_model.specs.Sets.{IsConfig, Sets}
 use Rattle.sc_subst.specs.declared.hidden.Hidden.{Hidden}
 use Rattle.sc_subst.specs.Seen.{seen_hidden}
 
--- ---- numbers
-
-below-long : (n : ℕ) (ms : List ℕ) → length (below n ms) ≤ length ms
-below-long n [] = omega arith
-below-long n (m ∷ ms) = by (nat_lt m n) (below-long n ms)
-  where
-    by : (b : Bool) → length (below n ms) ≤ length ms → length (if b then m ∷ below n ms else below n ms) ≤ suc (length ms)
-    by true le = omega (arith, le)
-    by false le = omega (arith, le)
-
 -- ---- what a configuration has of lists
 
 -- the first item is not among the last n
@@ -61,7 +52,7 @@ first-more s (x ∷ xs) item c n first has far = by (s.has x.0.0 c) (ap (λ (y :
     same = cc
 
     by : (b : Bool) → b ≡ true → length (below n (if b then length xs ∷ behind_at s xs c else behind_at s xs c)) < length (if b then length xs ∷ behind_at s xs c else behind_at s xs c)
-    by true is = let count = ap length (below-not n (length xs) (behind_at s xs c) (omega (arith, far))) in omega (arith, count, below-long n (behind_at s xs c))
+    by true is = let count = ap length (below-not n (length xs) (behind_at s xs c) (omega (arith, far))) in omega (arith, count, below-most n (behind_at s xs c))
     by false is = absurd (true≢false (sym is))
 
 -- what is still to be scanned of the whole list
@@ -82,7 +73,7 @@ state-bottom st e c = by e.below.items
 
 -- it has its own items among what is still to be scanned
 last-fits : (st : Stores) (e : Expansion) (n : ℕ) (c : List ℕ) → last_at st e n c ≤ length (steps.bottom (state_now st e c))
-last-fits st e n c = let count = ap length (state-bottom st e c) in omega (arith, count, length-seen st (bottom e).work c, below-long n (behind_at st.sets (bottom e).work c))
+last-fits st e n c = let count = ap length (state-bottom st e c) in omega (arith, count, length-seen st (bottom e).work c, below-most n (behind_at st.sets (bottom e).work c))
 
 -- ---- who takes part in a turn
 
@@ -215,10 +206,10 @@ module _ {now new : Stores} {e after : Expansion} {c : List ℕ} (n : ℕ) (fits
   rest-fewer (took item one none first last) m le = last-fewer last m (let less = far item one none first in omega (arith, less))
 
   -- .. and of the last n all, or all that it has left
-  rest-own : Rest now new e after c → last_at new after n c ≡ lower_of (length (seen_at new (bottom after).work c)) (last_at now e n c)
+  pub rest-own : Rest now new e after c → last_at new after n c ≡ lower_of (length (seen_at new (bottom after).work c)) (last_at now e n c)
   rest-own rest = lower-is (length (seen_at new (bottom after).work c)) (last_at now e n c) (last_at new after n c)
       (subst (λ k. lower_of k (last_at now e n c) ≤ last_at new after n c) (sym (length-seen new (bottom after).work c)) (low rest))
-      (omega (arith, length-seen new (bottom after).work c, below-long n (behind_at new.sets (bottom after).work c)))
+      (omega (arith, length-seen new (bottom after).work c, below-most n (behind_at new.sets (bottom after).work c)))
       (rest-fewer rest n (omega arith))
     where
       low : Rest now new e after c → lower_of (length (behind_at new.sets (bottom after).work c)) (last_at now e n c) ≤ last_at new after n c

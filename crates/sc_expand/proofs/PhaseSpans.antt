@@ -15,7 +15,7 @@ use Rattle.sc_expand.proofs.NameUses.{SomeRun, state-runs}
 use Rattle.sc_expand.proofs.PhaseCalls.{below-fewer, items-parted}
 use Rattle.sc_expand.proofs.PhaseItems.{comes-by, item-is}
 use Rattle.sc_expand.proofs.PhaseLists.{same-end, take-least}
-use Rattle.sc_expand.proofs.Phases.{Begins, Comes, HasItem, Phase, Spans, at_item, at_start, bound_of, last_at, state_now, tokens_from}
+use Rattle.sc_expand.proofs.Phases.{Begins, Comes, HasItem, Phase, at_item, at_start, bound_of, last_at, state_now, tokens_from}
 use Rattle.sc_expand.proofs.Placed as placed
 use Rattle.sc_expand.proofs.PassesLaws.{passes-end, run-same}
 use Rattle.sc_expand.proofs.Placed.{placed-within}
@@ -67,7 +67,7 @@ module _ {files : List (List ℕ)} {macros : List ℕ → Macros} (names : List 
     where
       by : Begins files macros old now was e phase.came phase.at phase.next → length here.name.behind ≡ length rest
       by (at_item one missed) = here.long ∙ ap (λ k. length (tokens_from old was k c)) one
-      by (at_start is_start none_came empty) = absurd (true≢false (sym here.came_is ∙ none_came c))
+      by (at_start is_start none_came empty idle) = absurd (true≢false (sym here.came_is ∙ none_came c))
 
   abbrev x : InName (provenance_of files) (macros c) list (state_now now e c)
   x = here.name
@@ -110,7 +110,7 @@ module _ {files : List (List ℕ)} {macros : List ℕ → Macros} (names : List 
 
   -- ---- a span
 
-  module _ (size : ℕ) (d : List ℕ) (span : Spans files macros old was phase.at size c d) where
+  module _ (size : ℕ) (coming : Comes files macros old was phase.at c) (few : length coming.uses.taken ≤ length (items_at old.sets (take size items) c)) where
     abbrev bound : ℕ
     bound = bound_of was phase.at size
 
@@ -130,15 +130,15 @@ module _ {files : List (List ℕ)} {macros : List ℕ → Macros} (names : List 
         let less = below-fewer m bound (behind_at old.sets items c) (omega (arith, least)) in
         omega (arith, ap length it.1, length-drop it.0 (below m (behind_at old.sets was.top.work c)), whole, below-items old.sets c m items (omega (arith, least, low)), less, below-items old.sets c bound items low)
 
-    pub inside-span : IsInside files macros now e phase.n bound span.one.uses.looked_up c
+    pub inside-span : IsInside files macros now e phase.n bound coming.uses.looked_up c
     inside-span =
-        let end = passes-end (provenance_of files) (macros c) span.one.passes in
-        let uses = (one-run (provenance_of files) (macros c) span.one.runs named.later run.end named.uses (run-same (provenance_of files) (macros c) (stands-at (seen_hidden old.names old.hides span.one.item.1) end.0 end.1) named.runs)).uses in
-        let took : length span.one.uses.taken ≡ length x.reaches.taken + length run.uses.taken = ap (λ (u : Uses Place). length u.taken) uses ∙ (ap length named.taken_is ∙ length-append x.reaches.taken run.uses.taken) in
+        let end = passes-end (provenance_of files) (macros c) coming.passes in
+        let uses = (one-run (provenance_of files) (macros c) coming.runs named.later run.end named.uses (run-same (provenance_of files) (macros c) (stands-at (seen_hidden old.names old.hides coming.item.1) end.0 end.1) named.runs)).uses in
+        let took : length coming.uses.taken ≡ length x.reaches.taken + length run.uses.taken = ap (λ (u : Uses Place). length u.taken) uses ∙ (ap length named.taken_is ∙ length-append x.reaches.taken run.uses.taken) in
         let stood : length x.behind ≡ length x.reaches.taken + length x.left = ap length x.reaches.stands ∙ length-append x.reaches.taken x.left in
         let count : length x.behind ≡ length (items_at old.sets items c) = long ∙ length-map (items_at old.sets items c) (seen_hidden old.names old.hides) in
         let parts = items-parted old.sets c (length items - bound) items in
-        let taken : length span.one.uses.taken ≤ length (items_at old.sets (take (length items - bound) items) c) = subst (λ l. length span.one.uses.taken ≤ length (items_at old.sets l c)) (take-least size items) span.one_within in
+        let taken : length coming.uses.taken ≤ length (items_at old.sets (take (length items - bound) items) c) = subst (λ l. length coming.uses.taken ≤ length (items_at old.sets l c)) (take-least size items) few in
         record {
           left = x.left;
           front = x.reaches.front;

@@ -1,26 +1,31 @@
 -- A phase of an expansion begins: with the whole list, and at each name of it.
-use Rattle.std.proofs.Common.{◌≡◌, ◌⊎◌, inl, inr, ℕ, zero, suc, ◌+◌, ◌-◌, ◌<◌, ◌≤◌, ◌&&◌, Bool, true, false, true≢false, List, [], ◌∷◌, All, None, Some, drop, length, slice_get, take, refl, sym, ap, subst, ◌∙◌, arith, if◌then◌else◌}
+use Rattle.std.proofs.Common.{◌≡◌, ◌⊎◌, inl, inr, ℕ, zero, suc, ◌+◌, ◌-◌, ◌<◌, ◌≤◌, ◌&&◌, Bool, true, false, true≢false, List, [], ◌∷◌, ◌++◌, All, None, Some, drop, length, length-append, map, slice_get, take, refl, sym, ap, subst, ◌∙◌, arith, if◌then◌else◌}
 use Rattle.std.proofs.lemmas.Bool.{and_parts, cases_lt}
-use Rattle.std.proofs.lemmas.List.{drop-drop, drop_all, length-drop, take-take, take_all}
-use Rattle.std.proofs.lemmas.List.Elements.{All-cons, All-nil, All-take}
+use Rattle.std.proofs.lemmas.List.{append-nil, append_assoc, drop-drop, drop_all, length-drop, map-append, take-take, take_all}
+use Rattle.std.proofs.lemmas.List.Elements.{All-append, All-cons, All-drop, All-head, All-nil, All-take}
 use Rattle.c11_macros.specs.Hidden as model
 use Rattle.c11_macros.specs.Macros.{Macros}
 use Rattle.c11_macros.specs.Runs.{Passes, begins}
 use Rattle.sc_base.specs.declared.fault.Fault.{Fault}
 use Rattle.sc_base.specs.declared.id.Cond.{Cond}
 use Rattle.sc_base.specs.declared.place.Place.{Place}
+use Rattle.sc_expand.proofs.AlikeLemmas.{AreAlike-Keeps, IsAlike-Keeps}
+use Rattle.sc_expand.proofs.BottomLemmas.{behind-Keeps, bottom-frame}
 use Rattle.sc_expand.proofs.Lower.{lower-bounds, lower-least, lower-min}
-use Rattle.sc_expand.proofs.Behind.{Fall, behind-falls, below, below-all, below-behind, below-not}
+use Rattle.sc_expand.proofs.Behind.{Fall, Fall-weaker, behind-falls, below, below-all, below-behind, below-not}
 use Rattle.sc_expand.proofs.MachineLemmas.{progress-step}
 use Rattle.sc_expand.proofs.PhaseLists.{alike-behind, below-from, below-same, first-had, length-seen, same-end, seen-drop, seen-name, take-least}
 use Rattle.sc_expand.proofs.PassesLaws.{passes-end}
 use Rattle.sc_expand.proofs.PhaseItems.{come-many, from-later}
-use Rattle.sc_expand.proofs.Phases.{Begins, Comes, HasItem, IsReady, Phase, Segments, Spans, at_item, at_start, bound_of, last_at, state_now, tokens_from}
-use Rattle.sc_expand.proofs.PhaseSegments.{bottom-is, held-drop, held-take, out-is, own-few, phase-segments, puts-as, segments-Grows, stands, state-is}
-use Rattle.sc_expand.proofs.Placed.{IsNext, Placed, away, placed-next, placed-within}
+use Rattle.sc_expand.proofs.Phases.{Begins, Comes, HasItem, IsFresh, IsOver, IsReady, IsWorn, PairStands, Phase, Segments, Settling, Spans, Waiting, as_one, at_item, at_start, bound_of, come_through, indexes_now, last_at, state_now, tokens_from}
+use Rattle.sc_expand.proofs.NamedItems.{first-alone, indexes-append, indexes-Keeps, item-all, item-append, item-none, same-name-Keeps, same-name-more}
+use Rattle.sc_expand.proofs.PhaseKeeps.{all-below, all-fall, fronts-alike, fronts-lack, low-behind, number, numbered, numbered-once, numbered-none, numbered-own, numbered-alike, numbered-behind, numbered-idle, numbered-indexes, numbered-is, numbered-lacks, numbered-later, numbers-first, numbers-same}
+use Rattle.sc_expand.proofs.PhaseSegments.{bottom-is, held-drop, held-take, out-is, own-few, phase-segments, puts-as, segments-Grows, segments-kept, settles-on, stands, state-is}
+use Rattle.sc_expand.proofs.Placed.{IsNext, Placed, away, placed-next}
 use Rattle.sc_expand.proofs.SeenLemmas.{seen_at-Grows}
 use Rattle.sc_expand.proofs.Turning.{put_by-held}
-use Rattle.sc_expand.proofs.RunLemmas.{IsRunning, rests-at, running-stands, start-state, told-apart}
+use Rattle.sc_expand.proofs.PhaseMoves.{first-more}
+use Rattle.sc_expand.proofs.RunLemmas.{IsRunning, rests-at, running-apart, running-stands, start-state, told-apart}
 use Rattle.sc_expand.specs.Alike.{IsAlikeCall, IsAlikeEnclosing, IsAlikeExpansion, IsAlikeFrame, Others, others_at}
 use Rattle.sc_expand.specs.declared.call.Call.{Call}
 use Rattle.sc_expand.specs.declared.expansion.Expansion.{Expansion}
@@ -31,13 +36,15 @@ use Rattle.sc_expand.specs.FootprintSteps.{IsPending, lower_of}
 use Rattle.sc_expand.specs.Having.{behind_at}
 use Rattle.sc_expand.specs.Machine.{IsHeldExpansion}
 use Rattle.sc_expand.specs.Plain.{State, scanning}
-use Rattle.sc_expand.specs.Running.{IsRested, IsUntouched, bottom, bottom_by, put_by, put_out}
+use Rattle.sc_expand.specs.Running.{IsRested, IsUntouched, KeepsGone, bottom, bottom_by, put_by, put_out}
 use Rattle.sc_expand.specs.Seen.{AreHeld, Grows, Stores, provenance_of, seen_at}
-use Rattle.sc_expand.specs.Spans.{passed}
+use Rattle.sc_expand.specs.Spans.{IsSameName, indexes_in, of_item, passed}
+use Rattle.sc_expand.specs.Unchanged.{Drops}
+use Rattle.sc_guarded.proofs.ItemLemmas.{items_at-Keeps}
 use Rattle.sc_guarded.specs.Items.{items_at}
 use Rattle.sc_hoist.specs.Alike.{AreAlike, AreAlikeFaults, IsAlike}
-use Rattle.sc_model.proofs.SetLemmas.{IsConfig-Keeps}
-use Rattle.sc_model.specs.Sets.{IsConfig, Sets}
+use Rattle.sc_model.proofs.SetLemmas.{IsConfig-Keeps, IsConfig-kept}
+use Rattle.sc_model.specs.Sets.{IsCond, IsConfig, Sets}
 use Rattle.sc_subst.specs.declared.hidden.Hidden.{Hidden}
 use Rattle.sc_subst.specs.Seen.{seen_hidden}
 
@@ -90,15 +97,22 @@ module _ (files : List (List ℕ)) (macros : List ℕ → Macros) where
     low = omega arith;
     faults = 0;
     came = λ c. false;
-    begins = at_start refl (λ c. refl) (ap (λ bs. put_by bs was.top) fresh.below ∙ fresh.out);
-    before = record { segments = []; many = refl; is = refl; each = λ index part found. absurd (cc) };
+    begins = at_start refl (λ c. refl) (ap (λ bs. put_by bs was.top) fresh.below ∙ fresh.out) (λ c p. fresh.waiting.none c p);
+    kept = [];
+    kept_is = fresh.rest;
+    behind = All-nil (λ (x : ℕ × (Cond × Hidden)). x.0 < length was.top.work - length was.top.work);
+    once = λ k le. omega arith;
+    worn = inr (record {
+      moved = λ c p k. absurd (true≢false (sym k));
+      over = λ c p waits. absurd (true≢false (sym waits ∙ fresh.waiting.none c p));
+      first = λ c p waits. absurd (true≢false (sym waits ∙ fresh.waiting.none c p));
+    });
+    before = record { segments = []; many = refl; is = refl; each = λ index part found. absurd (cc); names = λ index part found. absurd (cc); itself = λ index less. absurd (omega (arith, less)) };
     waits = λ c p waits. absurd (true≢false (sym waits ∙ fresh.waiting.none c p));
     has = λ c p k. absurd (true≢false (sym k));
     place = λ c p live. place c;
     suffix = λ c p live m le. (0, ap (λ (f : Frame). below m (behind_at old.sets f.work c)) bot);
-    alike = λ size c d p q span live live_d pending pending_d.
-        let w = placed-within (provenance_of files) (macros c) (seen_at old was.top.work c) false (length (seen_at old was.top.work c)) [] (last_at old was (length was.top.work) c) (state_now old was c) (place c) pending in
-        absurd (true≢false (sym w.came_is));
+    pairs = λ size c d p q span here there. absurd (true≢false (sym here));
   }
     where
       bot : bottom was ≡ was.top
@@ -128,24 +142,26 @@ module _ {files : List (List ℕ)} {macros : List ℕ → Macros} {old now : Sto
     faults = phase.faults;
     came = phase.came;
     begins = begins-now phase.begins;
-    before = subst (λ l. Segments files macros old was new phase.at (take phase.outs l)) (sym rested.out) (segments-Grows files macros old now was grows rested.grows (held-take phase.outs (put_out e) held_out) phase.before);
+    kept = phase.kept ++ more;
+    kept_is = gone.rest ∙ ((λ i. phase.kept_is i ++ sym (numbered-is new.sets e.refusals.waiting.0 (length was.top.work) phase.n phase.at (length (bottom after).work) gone.is) i) ∙ sym (map-append (λ (x : ℕ × (Cond × Hidden)). x.1) phase.kept more));
+    behind = All-append (λ (x : ℕ × (Cond × Hidden)). x.0 < length was.top.work - n) phase.kept more (λ k x h. (let few = phase.behind k x h in omega (arith, few, lower-min (length (bottom after).work) phase.n))) more-behind;
+    once = once-rested;
+    worn = worn-rested phase.worn;
+    before = subst (λ l. Segments files macros old was new phase.at (take phase.outs l) (phase.kept ++ more)) (sym rested.out)
+        (segments-kept files macros old new was phase.kept more more-later (segments-Grows files macros old now was grows rested.grows (held-take phase.outs (put_out e) held_out) kept-own phase.before));
     waits = λ c p waits.
-        let w = phase.waits c p (sym (rested.grows.sets.at e.refusals.waiting.0 c r.held.refusals.waiting (IsConfig-Keeps grows.sets p)) ∙ (ap (λ (k : Refusals). new.sets.has k.waiting.0 c) (sym rested.refusals) ∙ waits)) in
-        record { puts = puts-as files macros old now was new phase.at (drop phase.outs (put_out e)) (drop phase.outs (put_out after)) c (own-same c p) w.puts; last = w.last };
+        let w = phase.waits c p (sym (waits-same c p) ∙ waits) in record {
+          puts = puts-as files macros old now was new phase.at (drop phase.outs (put_out e)) (drop phase.outs (put_out after)) c (own-same c p) w.puts;
+          waited = subst (λ l. Waiting files macros old was l c) (sym (indexes-same c p waits)) w.waited;
+          last = w.last;
+        };
     has = phase.has;
     place = λ c p live.
         let s = stays c p live in
         subst (λ (z : List (model.Hidden Place) × State Place × ℕ). Placed (provenance_of files) (macros c) (seen_at old was.top.work c) (phase.came c) (length (tokens_from old was phase.next c)) z.0 z.1 z.2)
         (λ i. (sym (start-same c p) i, s.1 i, sym (last c p live) i)) (phase.place c p s.0);
     suffix = λ c p live m le. let it = phase.suffix c p (stays c p live).0 m (omega (arith, le, lower-min (length (bottom after).work) phase.n)) in (it.0, ap (below m) (behind c p live) ∙ it.1);
-    alike = λ size c d p q span live live_d pending pending_d.
-        let s = stays c p live in
-        let t = stays d q live_d in
-        let was_pending = subst (λ m. IsPending (state_now now e c) m) (last c p live) (subst (λ x. IsPending x (last_at new after n c)) (sym s.1) pending) in
-        let was_pending_d = subst (λ m. IsPending (state_now now e d) m) (last d q live_d) (subst (λ x. IsPending x (last_at new after n d)) (sym t.1) pending_d) in
-        let others : Others = record { behind = lower_of (bound_of was phase.at size) phase.n; out = phase.outs; faults = phase.faults } in
-        alike-fewer new.sets c d others (lower_of (bound_of was phase.at size) n) after (less (bound_of was phase.at size))
-        (rested.alike (length files) c d others r.held (IsConfig-Keeps grows.sets p) (IsConfig-Keeps grows.sets q) (phase.alike size c d p q span s.0 t.0 was_pending was_pending_d));
+    pairs = λ size c d p q span here there. pair-rested size c d p q here there (phase.pairs size c d p q span here there);
   }
     where
       long : ℕ
@@ -172,15 +188,244 @@ module _ {files : List (List ℕ)} {macros : List ℕ → Macros} {old now : Sto
       own-same : (c : List ℕ) → IsConfig old.sets.arities c → seen_at new (drop phase.outs (put_out after)) c ≡ seen_at now (drop phase.outs (put_out e)) c
       own-same c p = ap (λ l. seen_at new (drop phase.outs l) c) rested.out ∙ seen_at-Grows rested.grows c (IsConfig-Keeps grows.sets p) (drop phase.outs (put_out e)) (held-drop phase.outs (put_out e) held_out)
 
+      waits-same : (c : List ℕ) → IsConfig old.sets.arities c → new.sets.has after.refusals.waiting.0 c ≡ now.sets.has e.refusals.waiting.0 c
+      waits-same c p = ap (λ (k : Refusals). new.sets.has k.waiting.0 c) rested.refusals ∙ rested.grows.sets.at e.refusals.waiting.0 c r.held.refusals.waiting (IsConfig-Keeps grows.sets p)
+
       begins-now : Begins files macros old now was e phase.came phase.at phase.next → Begins files macros old new was after phase.came phase.at phase.next
-      begins-now (at_item one missed) = at_item one (λ c p live not. missed c p (stays c p live).0 not)
-      begins-now (at_start is_start none_came empty) = at_start is_start none_came (rested.out ∙ empty)
+      begins-now (at_item one missed) = at_item one missed
+      begins-now (at_start is_start none_came empty idle) = at_start is_start none_came (rested.out ∙ empty) (λ c p. waits-same c p ∙ idle c p)
 
       behind : (c : List ℕ) → IsConfig old.sets.arities c → new.sets.has after.refusals.live.0 c ≡ true → behind_at new.sets (bottom after).work c ≡ behind_at now.sets (bottom e).work c
       behind c p live = rested.rest (length files) c r.held (IsConfig-Keeps grows.sets p) (stays c p live).0
 
       last : (c : List ℕ) → IsConfig old.sets.arities c → new.sets.has after.refusals.live.0 c ≡ true → last_at new after n c ≡ last_at now e phase.n c
       last c p live = ap length (below-same long n phase.n (behind_at new.sets (bottom after).work c) (behind-falls new.sets c (bottom after).work) (lower-least long phase.n) ∙ ap (below phase.n) (behind c p live))
+
+      -- ---- what is kept
+
+      gone : KeepsGone new.sets e after
+      gone = rested.keeps (length files) r.held
+
+      more : List (ℕ × (Cond × Hidden))
+      more = numbered new.sets e.refusals.waiting.0 (length was.top.work) phase.n phase.at (length (bottom after).work) gone.is
+
+      kept-own : All (λ (item : Cond × Hidden). IsCond now.sets item.0.0) (map (λ x. x.1) phase.kept)
+      kept-own = subst (All (λ (item : Cond × Hidden). IsCond now.sets item.0.0)) phase.kept_is r.held.rest.own
+
+      more-idle : ((c : List ℕ) → IsConfig old.sets.arities c → now.sets.has e.refusals.waiting.0 c ≡ false) → more ≡ []
+      more-idle idle = numbered-idle new.sets e.refusals.waiting.0 (length was.top.work) phase.n phase.at (length (bottom after).work) gone.is (λ c listed.
+          (let there = IsConfig-kept rested.grows.sets listed in
+          rested.grows.sets.at e.refusals.waiting.0 c r.held.refusals.waiting there ∙ idle c (IsConfig-kept grows.sets there)))
+
+      more-behind : All (λ x. x.0 < length was.top.work - n) more
+      more-behind = by phase.begins
+        where
+          by : Begins files macros old now was e phase.came phase.at phase.next → All (λ x. x.0 < length was.top.work - n) more
+          by (at_item one missed) =
+              let most = phase.most in
+              numbered-behind new.sets e.refusals.waiting.0 (length was.top.work) phase.n phase.at (length (bottom after).work) n gone.is (omega (arith, one, most, lower-min (length (bottom after).work) phase.n))
+              (omega (arith, lower-min (length (bottom after).work) phase.n)) (omega (arith, lower-min (length (bottom after).work) phase.n)) (omega (arith, most))
+          by (at_start is_start none_came empty idle) = subst (All (λ (x : ℕ × (Cond × Hidden)). x.0 < length was.top.work - n)) (sym (more-idle idle)) (All-nil (λ (x : ℕ × (Cond × Hidden)). x.0 < length was.top.work - n))
+
+      more-later : All (λ x. phase.at ≤ x.0) more
+      more-later = by phase.begins
+        where
+          by : Begins files macros old now was e phase.came phase.at phase.next → All (λ x. phase.at ≤ x.0) more
+          by (at_item one missed) = let most = phase.most in numbered-later new.sets e.refusals.waiting.0 (length was.top.work) phase.n phase.at (length (bottom after).work) gone.is (omega (arith, one, most)) (omega (arith, most))
+          by (at_start is_start none_came empty idle) = subst (All (λ (x : ℕ × (Cond × Hidden)). phase.at ≤ x.0)) (sym (more-idle idle)) (All-nil (λ (x : ℕ × (Cond × Hidden)). phase.at ≤ x.0))
+
+      -- ---- two configurations
+
+      low : (c : List ℕ) → IsConfig old.sets.arities c → (phase.came c ≡ true) ⊎ (now.sets.has e.refusals.waiting.0 c ≡ true) → phase.at < length was.top.work - phase.n
+      low c p here = by phase.begins here
+        where
+          by : Begins files macros old now was e phase.came phase.at phase.next → (phase.came c ≡ true) ⊎ (now.sets.has e.refusals.waiting.0 c ≡ true) → phase.at < length was.top.work - phase.n
+          by (at_item one missed) here = let most = phase.most in omega (arith, one, most)
+          by (at_start is_start none_came empty idle) (inl came) = absurd (true≢false (sym came ∙ none_came c))
+          by (at_start is_start none_came empty idle) (inr waits) = absurd (true≢false (sym waits ∙ idle c p))
+
+      fits-all : phase.n ≤ length was.top.work
+      fits-all = let most = phase.most in omega (arith, most)
+
+      -- the list below all others began with what is gone
+      work-now : (c : List ℕ) → IsConfig old.sets.arities c → behind_at new.sets (gone.gone ++ (bottom after).work) c ≡ behind_at now.sets (bottom e).work c
+      work-now c p = ap (λ l. behind_at new.sets l c) (sym gone.work) ∙ behind-Keeps rested.grows.sets (IsConfig-Keeps grows.sets p) (bottom e).work (bottom-frame e r.held).work.own
+
+      -- what waits and is left
+      indexes-same : (c : List ℕ) → IsConfig old.sets.arities c → new.sets.has after.refusals.waiting.0 c ≡ true
+          → indexes_now new after (length was.top.work) n phase.at (phase.kept ++ more) c ≡ indexes_now now e (length was.top.work) phase.n phase.at phase.kept c
+      indexes-same c p waits =
+          let kept = indexes_in now.sets phase.kept c in
+          let they = indexes_in new.sets more c in
+          let numbers = behind_at new.sets (bottom after).work c in
+          let f = number (length was.top.work) phase.n phase.at in
+          let waited = ap (λ (k : Refusals). new.sets.has k.waiting.0 c) (sym rested.refusals) ∙ waits in
+          let gone_is = numbered-indexes new.sets e.refusals.waiting.0 (length was.top.work) phase.n phase.at long gone.is (bottom after).work refl c (IsConfig-Keeps rested.grows.sets (IsConfig-Keeps grows.sets p)) waited in
+          (λ i. (indexes-append new.sets c phase.kept more ∙ ap (λ l. l ++ they) (indexes-Keeps new.sets c rested.grows.sets (IsConfig-Keeps grows.sets p) phase.kept kept-own)) i
+          ++ numbers-same (length was.top.work) n phase.n phase.at long numbers (behind-falls new.sets c (bottom after).work) (lower-least long phase.n) i)
+          ∙ (append_assoc kept they (map f numbers) ∙ ap (λ l. kept ++ l) (sym gone_is ∙ ap (map f) (work-now c p)))
+
+      lows : (c : List ℕ) → IsConfig old.sets.arities c → IsOver now e phase.n c → All (λ m. m < phase.n) (behind_at new.sets (gone.gone ++ (bottom after).work) c)
+      lows c p x = subst (All (λ (m : ℕ). m < phase.n)) (sym (work-now c p)) (all-below phase.n (behind_at now.sets (bottom e).work c) (let own = x.own in omega (arith, own, length-seen now (bottom e).work c)))
+
+      over-rested : (c : List ℕ) → IsConfig old.sets.arities c → IsOver now e phase.n c → IsOver new after n c
+      over-rested c p x = record {
+        own =
+            let ms = behind_at new.sets (bottom after).work c in
+            let falls = behind-falls new.sets c (bottom after).work in
+            let all = below-all phase.n ms (all-fall phase.n (length (bottom after).work) ms (low-behind new.sets c phase.n gone.gone (bottom after).work (lows c p x)) falls) in
+            let same = ap length (below-same long n phase.n ms falls (lower-least long phase.n) ∙ all) in
+            omega (arith, same, length-seen new (bottom after).work c);
+        stays = stay x.stays;
+        rests = λ live pending.
+            let s = stays c p live in
+            x.rests s.0 (subst (λ m. IsPending (state_now now e c) m) (last c p live) (subst (λ y. IsPending y (last_at new after n c)) (sym s.1) pending));
+      }
+        where
+          stay : (now.sets.has e.refusals.live.0 c ≡ true) ⊎ (now.sets.has e.refusals.waiting.0 c ≡ true) → (new.sets.has after.refusals.live.0 c ≡ true) ⊎ (new.sets.has after.refusals.waiting.0 c ≡ true)
+          stay (inl live) = inl (ap (λ (k : Refusals). new.sets.has k.live.0 c) rested.refusals ∙ (rested.grows.sets.at e.refusals.live.0 c r.held.refusals.live (IsConfig-Keeps grows.sets p) ∙ live))
+          stay (inr waits) = inr (waits-same c p ∙ waits)
+
+      over-lacks : (c : List ℕ) → IsConfig old.sets.arities c → (phase.came c ≡ true) ⊎ (now.sets.has e.refusals.waiting.0 c ≡ true) → IsOver now e phase.n c → items_at new.sets (of_item phase.at more) c ≡ []
+      over-lacks c p here x =
+          numbered-lacks new.sets e.refusals.waiting.0 (length was.top.work) phase.n phase.at (length (bottom after).work) (low c p here) fits-all gone.is c (IsConfig-Keeps rested.grows.sets (IsConfig-Keeps grows.sets p))
+          (fronts-lack new.sets e.refusals.waiting.0 (length was.top.work) phase.n phase.at (length (bottom after).work) c gone.gone (bottom after).work refl (lows c p x))
+
+      -- ---- the item itself
+
+      gone-long : length gone.gone + length (bottom after).work ≡ length (bottom e).work
+      gone-long = sym (length-append gone.gone (bottom after).work) ∙ sym (ap length gone.work)
+
+      once-rested : (k : ℕ) → phase.next ≤ k → length (of_item k (phase.kept ++ more)) ≤ 1
+      once-rested k le = by phase.begins (cases_lt k (length was.top.work - phase.n))
+        where
+          parts : length (of_item k (phase.kept ++ more)) ≡ length (of_item k phase.kept) + length (of_item k more)
+          parts = ap length (item-append k phase.kept more) ∙ length-append (of_item k phase.kept) (of_item k more)
+
+          were : length (of_item k phase.kept) ≤ 1
+          were = phase.once k le
+
+          by : Begins files macros old now was e phase.came phase.at phase.next → (k < length was.top.work - phase.n) ⊎ (length was.top.work - phase.n ≤ k) → length (of_item k (phase.kept ++ more)) ≤ 1
+          by (at_start is_start none_came empty idle) where_is = let none = ap (λ l. length (of_item k l)) (more-idle idle) in omega (arith, parts, were, none)
+          by (at_item one missed) (inl before) =
+              let none = ap length (item-none k more (λ j x h is. (let of = numbered-own new.sets e.refusals.waiting.0 (length was.top.work) phase.n phase.at long gone.is j x h in
+              elim of [ inl same ↦ omega (arith, same, is, le, one) | inr high ↦ omega (arith, high, is, before) ]))) in
+              omega (arith, parts, were, none)
+          by (at_item one missed) (inr behind) =
+              let most = phase.most in
+              let none = ap length (item-none k phase.kept (λ j x h is. (let less = phase.behind j x h in omega (arith, less, is, behind)))) in
+              let new_is = numbered-once new.sets e.refusals.waiting.0 (length was.top.work) phase.n phase.at long gone.is k (omega (arith, one, most)) fits-all (λ same. absurd (omega (arith, same, le, one))) in
+              omega (arith, parts, none, new_is)
+
+      worn-rested : IsFresh files macros old now was e phase.came phase.at phase.n phase.kept ⊎ IsWorn files macros old now was e phase.came phase.at phase.n phase.kept
+          → IsFresh files macros old new was after phase.came phase.at n (phase.kept ++ more) ⊎ IsWorn files macros old new was after phase.came phase.at n (phase.kept ++ more)
+      worn-rested (inr w) = inr (record {
+        moved = λ c p here live. w.moved c p here (stays c p live).0;
+        over = λ c p waits it. over-rested c p (w.over c p (sym (waits-same c p) ∙ waits) it);
+        first = λ c p waits it.
+            let Own : Cond × Hidden → Type 0 = λ item. IsCond now.sets item.0.0 in
+            let of = of_item phase.at phase.kept in
+            let waited = sym (waits-same c p) ∙ waits in
+            ap (λ l. items_at new.sets (drop 1 l) c) (item-append phase.at phase.kept more)
+            ∙ first-alone new.sets c of (of_item phase.at more) (items_at-Keeps (drop 1 of) c rested.grows.sets (All-drop Own 1 of (item-all Own phase.at phase.kept kept-own)) (IsConfig-Keeps grows.sets p) ∙ w.first c p waited it)
+            (over-lacks c p (inr waited) (w.over c p waited it));
+      })
+      worn-rested (inl f) = by gone.gone refl
+        where
+          was-work : (bottom e).work ≡ f.first ∷ f.rest
+          was-work = ap (λ bs. (bottom_by bs e.top).work) f.below ∙ f.work
+
+          drops : Drops now.sets e after
+          drops = rested.drops (length files) r.held (record { below = f.below; calls = f.calls })
+
+          by : (gs : List (Cond × Hidden)) → gone.gone ≡ gs
+              → IsFresh files macros old new was after phase.came phase.at n (phase.kept ++ more) ⊎ IsWorn files macros old new was after phase.came phase.at n (phase.kept ++ more)
+          by [] none = inl (record {
+            below = drops.uncalled.below;
+            calls = drops.uncalled.calls;
+            first = f.first;
+            rest = f.rest;
+            work = sym (ap (λ bs. (bottom_by bs after.top).work) drops.uncalled.below) ∙ stands;
+            long = let count = ap length stands in let rest = f.long in omega (arith, count, rest, lower-min (length (bottom after).work) phase.n);
+            none = item-append phase.at phase.kept more ∙ ((λ i. f.none i ++ of_item phase.at (numbered-none new.sets e.refusals.waiting.0 (length was.top.work) phase.n phase.at long gone.is none i)));
+            has = λ c p here. rested.grows.sets.at f.first.0.0 c (All-head (λ (item : Cond × Hidden). IsCond now.sets item.0.0) f.first f.rest (subst (All (λ (item : Cond × Hidden). IsCond now.sets item.0.0)) f.work r.held.top.work.own)) (IsConfig-Keeps grows.sets p) ∙ f.has c p here;
+            starts = λ c p here.
+                let s = f.starts c p here in
+                let same : after.top.work ≡ e.top.work = sym (ap (λ bs. (bottom_by bs after.top).work) drops.uncalled.below) ∙ (stands ∙ sym f.work) in
+                (s.0, ap (λ l. seen_at new l c) same ∙ (seen_at-Grows rested.grows c (IsConfig-Keeps grows.sets p) e.top.work r.held.top.work ∙ s.1));
+          })
+            where
+              stands : (bottom after).work ≡ f.first ∷ f.rest
+              stands = ap (λ l. l ++ (bottom after).work) (sym none) ∙ (sym gone.work ∙ was-work)
+          by (g ∷ gs) is = inr (record {
+            moved = λ c p here live. absurd (gone-none c p here live);
+            over = λ c p waits it. record { own = low-now c; stays = inr waits; rests = λ live pending. absurd (true≢false (sym (sym (waits-same c p) ∙ waits) ∙ running-apart grows r c p (stays c p live).0)) };
+            first = λ c p waits it. ap (λ l. items_at new.sets l c) (drop_all 1 (of_item phase.at (phase.kept ++ more)) (let low = low c p (inr (sym (waits-same c p) ∙ waits)) in one-only low));
+          })
+            where
+              short : (bottom after).work ≡ (bottom after).work → length (bottom after).work ≤ phase.n
+              short same = let count = ap length was-work in let rest = f.long in let some = ap length is in omega (arith, gone-long, count, rest, some)
+
+              low-now : (c : List ℕ) → length (seen_at new (bottom after).work c) ≤ last_at new after n c
+              low-now c =
+                  let few = short refl in
+                  let ms = behind_at new.sets (bottom after).work c in
+                  let all = ap length (below-all n ms (Fall-weaker long n ms (omega (arith, few, lower-min (length (bottom after).work) phase.n)) (behind-falls new.sets c (bottom after).work))) in
+                  omega (arith, all, length-seen new (bottom after).work c)
+
+              one-only : phase.at < length was.top.work - phase.n → length (of_item phase.at (phase.kept ++ more)) ≤ 1
+              one-only low =
+                  let parts = ap length (item-append phase.at phase.kept more ∙ ap (λ l. l ++ of_item phase.at more) f.none) in
+                  let count = ap length was-work in
+                  let rest = f.long in
+                  let new_is = numbered-once new.sets e.refusals.waiting.0 (length was.top.work) phase.n phase.at long gone.is phase.at low fits-all (λ same. omega (arith, gone-long, count, rest)) in
+                  omega (arith, parts, new_is)
+
+              gone-none : (c : List ℕ) → IsConfig old.sets.arities c → phase.came c ≡ true → new.sets.has after.refusals.live.0 c ≡ true → ⊥
+              gone-none c p here live =
+                  let there = behind c p live in
+                  let many = first-more now.sets (bottom e).work f.first c phase.n (ap (λ (l : List (Cond × Hidden)). slice_get l 0) was-work) (f.has c p here) (let count = ap length was-work in let rest = f.long in omega (arith, count, rest)) in
+                  let few = short refl in
+                  let ms = behind_at new.sets (bottom after).work c in
+                  let all = ap length (below-all phase.n ms (Fall-weaker long phase.n ms few (behind-falls new.sets c (bottom after).work))) in
+                  let same = ap (λ l. length (below phase.n l)) there in
+                  let count = ap length there in
+                  omega (arith, many, all, same, count)
+
+      -- what was made of the list below all others
+      made-alike : (c d : List ℕ) (others : Others) → IsAlikeExpansion now.sets c d others e → AreAlike now.sets c d (take (length (bottom e).work - others.behind) (bottom e).work)
+      made-alike c d others all = under e.below.items refl
+        where
+          under : (bs : List Enclosing) → e.below.items ≡ bs → AreAlike now.sets c d (take (length (bottom_by bs e.top).work - others.behind) (bottom_by bs e.top).work)
+          under [] is = (subst (λ (bs : List Enclosing). IsAlikeFrame now.sets c d (others_at others (length bs)) e.top) is all.top).work
+          under (b ∷ bs) is = (all.below 0 b (ap (λ (l : List Enclosing). slice_get l 0) is)).frame.work
+
+      pair-rested : (size : ℕ) (c d : List ℕ) → IsConfig old.sets.arities c → IsConfig old.sets.arities d → phase.came c ≡ true → phase.came d ≡ true
+          → PairStands now e (record { behind = lower_of (bound_of was phase.at size) phase.n; out = phase.outs; faults = phase.faults }) phase.n phase.outs (of_item phase.at phase.kept) c d
+          → PairStands new after (record { behind = lower_of (bound_of was phase.at size) n; out = phase.outs; faults = phase.faults }) n phase.outs (of_item phase.at (phase.kept ++ more)) c d
+      pair-rested size c d p q here there (as_one all of) =
+          let others : Others = record { behind = lower_of (bound_of was phase.at size) phase.n; out = phase.outs; faults = phase.faults } in
+          let p1 = IsConfig-Keeps grows.sets p in
+          let q1 = IsConfig-Keeps grows.sets q in
+          let Own : Cond × Hidden → Type 0 = λ item. IsCond now.sets item.0.0 in
+          let bound = lower_of (bound_of was phase.at size) phase.n in
+          let work = AreAlike-Keeps rested.grows.sets p1 q1 (take (length (bottom e).work - bound) (bottom e).work) (All-take Own (length (bottom e).work - bound) (bottom e).work (bottom-frame e r.held).work.own) (made-alike c d others all) in
+          let fronts = fronts-alike new.sets e.refusals.waiting.0 (length was.top.work) phase.n phase.at (length (bottom after).work) c d bound gone.gone (bottom after).work refl (omega (arith, lower-min (bound_of was phase.at size) phase.n))
+          (subst (λ (l : List (Cond × Hidden)). AreAlike new.sets c d (take (length l - bound) l)) gone.work work) in
+          let waits : new.sets.has e.refusals.waiting.0 c ≡ new.sets.has e.refusals.waiting.0 d = IsAlike-Keeps rested.grows.sets p1 q1 {cond = e.refusals.waiting} r.held.refusals.waiting all.refusals.waiting in
+          as_one
+          (alike-fewer new.sets c d others (lower_of (bound_of was phase.at size) n) after (less (bound_of was phase.at size)) (rested.alike (length files) c d others r.held p1 q1 all))
+          (subst (AreAlike new.sets c d) (sym (item-append phase.at phase.kept more)) (All-append (λ (item : Cond × Hidden). IsAlike new.sets c d item.0) (of_item phase.at phase.kept) (of_item phase.at more)
+          (AreAlike-Keeps rested.grows.sets p1 q1 (of_item phase.at phase.kept) (item-all Own phase.at phase.kept kept-own) of)
+          (numbered-alike new.sets e.refusals.waiting.0 (length was.top.work) phase.n phase.at (length (bottom after).work) (low c p (inl here)) fits-all gone.is c d (IsConfig-Keeps rested.grows.sets p1) (IsConfig-Keeps rested.grows.sets q1) waits fronts)))
+      pair-rested size c d p q here there (come_through x y is) =
+          let Own : Cond × Hidden → Type 0 = λ item. IsCond now.sets item.0.0 in
+          let done = drop phase.outs (put_out e) in
+          let later = same-name-more new.sets c d done (of_item phase.at phase.kept) [] (of_item phase.at more) refl refl (over-lacks c p (inl here) x) (over-lacks d q (inl there) y)
+          (same-name-Keeps rested.grows.sets done (of_item phase.at phase.kept) (All-drop Own phase.outs (put_out e) held_out.own) (item-all Own phase.at phase.kept kept-own) (IsConfig-Keeps grows.sets p) (IsConfig-Keeps grows.sets q) is) in
+          come_through (over-rested c p x) (over-rested d q y)
+          (subst (λ (z : List (Cond × Hidden) × List (Cond × Hidden)). IsSameName new.sets z.0 z.1 c d)
+          (λ i. ((append-nil done ∙ ap (drop phase.outs) (sym rested.out)) i, sym (item-append phase.at phase.kept more) i)) later)
 
 -- ---- the next name of the list
 
@@ -283,12 +528,16 @@ module _ {files : List (List ℕ)} {macros : List ℕ → Macros} {old now : Sto
       let count = ap length (behind-name c ∙ ap (λ (b : Bool). if b then length rest ∷ behind_at now.sets rest c else behind_at now.sets rest c) (sym none_first)) in
       omega (arith, few, same, count, length-seen now (item ∷ rest) c)
 
-  missed-name : (c : List ℕ) → IsConfig old.sets.arities c → now.sets.has e.refusals.live.0 c ≡ true → came_now c ≡ false → Comes files macros old was at_now c → ⊥
-  missed-name c p live not x =
+  missed-live : (c : List ℕ) → IsConfig old.sets.arities c → now.sets.has e.refusals.live.0 c ≡ true → came_now c ≡ false → Comes files macros old was at_now c → ⊥
+  missed-live c p live not x =
       let many = come-many files macros old was at_now c x in
       let before = from-later old was c phase.next at_now next-before in
       let far = (stands-first c p live).1.most x.before (seen_hidden old.names old.hides x.item.1 ∷ tokens_from old was (at_now + 1) c) x.passes (omega (arith, many, before)) in
       omega (arith, far, few-behind c p live (not-first (now.sets.has item.0.0 c) (now.sets.has e.refusals.live.0 c) not live))
+
+  -- who waits comes to no more items
+  missed-name : (c : List ℕ) → IsConfig old.sets.arities c → old.sets.has was.refusals.live.0 c ≡ true → Settling files macros old was c → came_now c ≡ false → Comes files macros old was at_now c → ⊥
+  missed-name c p asks settles not x = elim (settles-on r c p asks settles) [ inl live ↦ missed-live c p live not x | inr waits ↦ (phase.waits c p waits).last at_now next-before x ]
 
   -- all that was put out stood there as the name's expansion begins
   out-long : length (put_out e) ≤ length e.top.out
@@ -358,12 +607,18 @@ module _ {files : List (List ℕ)} {macros : List ℕ → Macros} {old now : Sto
       count : suc (length rest) - lower_of bound (length rest) ≡ suc (length rest - bound)
       count = let long = it.long in omega (arith, long, lower-min bound (length rest))
 
-  segments-now : Segments files macros old was now at_now (take (length e.top.out) (put_out e))
-  segments-now = subst (λ (z : ℕ × List (Cond × Hidden)). Segments files macros old was now z.0 z.1) (λ i. (length was.top.work - length (work i), sym starts i)) (phase-segments r phase none uncalled near)
+  segments-now : Segments files macros old was now at_now (take (length e.top.out) (put_out e)) phase.kept
+  segments-now = subst (λ (z : ℕ × List (Cond × Hidden)). Segments files macros old was now z.0 z.1 phase.kept) (λ i. (length was.top.work - length (work i), sym starts i)) (phase-segments r phase none uncalled near)
 
   reaches-name : (p : Phase files macros old now was e) × IsReady files macros p
   reaches-name = (phase_now, record { below = λ one free some. let long = ap length work in omega (arith, long) })
     where
+      indexes-first : (c : List ℕ) → indexes_now now e (length was.top.work) phase.n phase.at phase.kept c ≡ indexes_now now e (length was.top.work) (length rest) at_now phase.kept c
+      indexes-first c =
+          let numbers = behind_at now.sets (bottom e).work c in
+          ap (λ l. indexes_in now.sets phase.kept c ++ l) (numbers-first (length was.top.work) phase.n (length rest) phase.at numbers
+          (subst (λ (l : List (Cond × Hidden)). Fall (length l) numbers) bottom-first (behind-falls now.sets c (bottom e).work)) (let long = ap length work in omega (arith, long, near)))
+
       phase_now : Phase files macros old now was e
       phase_now = record {
         at = at_now;
@@ -376,24 +631,39 @@ module _ {files : List (List ℕ)} {macros : List ℕ → Macros} {old now : Sto
         faults = length e.refusals.faults.items;
         came = came_now;
         begins = at_item refl missed-name;
+        kept = phase.kept;
+        kept_is = phase.kept_is;
+        behind = λ k x h. (let few = phase.behind k x h in let long = ap length work in omega (arith, few, long, near));
+        once = λ k le. (let none = ap length (item-none k phase.kept (λ j x h same. (let few = phase.behind j x h in let long = ap length work in omega (arith, few, long, near, same, le)))) in omega (arith, none));
+        worn = inl (record {
+          below = none;
+          calls = uncalled;
+          first = item;
+          rest = rest;
+          work = work;
+          long = refl;
+          none = item-none at_now phase.kept (λ k x h same. (let few = phase.behind k x h in let long = ap length work in omega (arith, few, long, near, same)));
+          has = λ c p k. (and_parts (now.sets.has item.0.0 c) (now.sets.has e.refusals.live.0 c) k).0;
+          starts = λ c p k. (let it = comes c p k in (it.had, ap (λ l. seen_at now l c) work ∙ it.seen));
+        });
         before = segments-now;
         waits = λ c p waits.
             let w = phase.waits c p waits in
             let le = next-before in
             record {
               puts = passed (w.last at_now le) (ap (λ l. items_at now.sets l c) (drop_all (length e.top.out) (put_out e) out-long));
+              waited = subst (λ l. Waiting files macros old was l c) (indexes-first c) w.waited;
               last = λ index far. w.last index (omega (arith, le, far));
             };
         has = λ c p k. (comes c p k).had;
         place = place-now;
         suffix = λ c p live m le. let long = ap length work in phase.suffix c p live m (omega (arith, long, near, le));
-        alike = λ size c d p q span live live_d pending pending_d.
-            let came = λ (x : List ℕ) (listed : IsConfig old.sets.arities x) (is : now.sets.has e.refusals.live.0 x ≡ true) (more : IsPending (state_now now e x) (last_at now e (length rest) x)).
-            (placed-within (provenance_of files) (macros x) (seen_at old was.top.work x) (came_now x) (length (tokens_from old was (at_now + 1) x)) (seen_at now (take (length e.top.out) (put_out e)) x) (last_at now e (length rest) x) (state_now now e x) (place-now x listed is) more).came_is in
-            let k = came c p live pending in
-            let l = came d q live_d pending_d in
-            alike-name size c d (comes c p k) (comes d q l) span
-            ((and_parts (now.sets.has item.0.0 c) (now.sets.has e.refusals.live.0 c) k).0 ∙ sym (and_parts (now.sets.has item.0.0 d) (now.sets.has e.refusals.live.0 d) l).0) (live ∙ sym live_d) (told-apart (r.told c p) live ∙ sym (told-apart (r.told d q) live_d));
+        pairs = λ size c d p q span here there.
+            let k = and_parts (now.sets.has item.0.0 c) (now.sets.has e.refusals.live.0 c) here in
+            let l = and_parts (now.sets.has item.0.0 d) (now.sets.has e.refusals.live.0 d) there in
+            let none = item-none at_now phase.kept (λ k x h same. (let few = phase.behind k x h in let long = ap length work in omega (arith, few, long, near, same))) in
+            as_one (alike-name size c d (comes c p here) (comes d q there) span (k.0 ∙ sym l.0) (k.1 ∙ sym l.1) (told-apart (r.told c p) k.1 ∙ sym (told-apart (r.told d q) l.1)))
+            (subst (AreAlike now.sets c d) (sym none) (All-nil (λ (x : Cond × Hidden). IsAlike now.sets c d x.0)));
       }
 
 -- the phase goes on, or comes to the next name

@@ -14,7 +14,7 @@ use Rattle.sc_expand.proofs.GatherCases.{case-closed, closed-call, spellings}
 use Rattle.sc_expand.proofs.GatherEnds.{end-behind}
 use Rattle.sc_expand.proofs.GatherTaking.{function-form}
 use Rattle.sc_expand.proofs.MachineLemmas.{IsBelow, IsOnTop, stands-cases}
-use Rattle.sc_expand.proofs.PhaseAlike.{same-called}
+use Rattle.sc_expand.proofs.PhaseAlike.{pair-alike, same-called}
 use Rattle.sc_expand.proofs.PhaseMoves.{Waits, on-top, takes-pending}
 use Rattle.sc_expand.proofs.PhaseSpans.{comes, comes-named}
 use Rattle.sc_expand.proofs.Phases.{Comes, IsReady, Phase, last_at, state_now}
@@ -136,7 +136,8 @@ module _ {files : List (List ℕ)} {macros : List ℕ → Macros} (names : List 
       come = λ k d within. come-replaces _ (each k d within);
       apart = pairs-both (λ c d. call_places now.sets now.names (tokens_in e.top.work) 0 c ≡ call_places now.sets now.names (tokens_in e.top.work) 0 d → ⊥)
           (λ c d. (size : ℕ) → IsSpan (seen_hidden old.names old.hides) (provenance_of files) macros old.sets was.top.work phase.at size c d → ⊥) HasCome
-          (λ c d x y apart size span. apart (same-called files macros names within grows r began phase ready size c d x.listed y.listed span x.takes.live y.takes.live x.pending y.pending x.takes x.ends).places)
+          (λ c d x y apart size span. apart ((same-called files macros names within grows r began phase ready size c d x.listed y.listed span
+          (pair-alike files macros names within grows r began phase ready size c d x.listed y.listed span x.takes.live y.takes.live x.pending y.pending) x.takes.live x.pending x.takes x.ends).places x.ends))
           calls.configs each calls.apart;
     }
       where

@@ -1,31 +1,40 @@
 -- What a phase has put out, through a turn, and what is put out for the item of who begins to wait.
-use Rattle.std.proofs.Common.{◌≡◌, ◌∙◌, ℕ, ◌≤◌, Bool, true, false, true≢false, List, [], ◌∷◌, ◌++◌, drop, length, length-append, Some, None, slice_get, take, refl, sym, ap, subst, arith}
-use Rattle.std.proofs.lemmas.List.{append_cancel_left, take-append-drop}
+use Rattle.std.proofs.Common.{◌≡◌, ◌∙◌, ℕ, ◌≤◌, Bool, true, false, true≢false, List, [], ◌∷◌, ◌++◌, ◌-◌, ◌<◌, All, append-nil, drop, length, length-append, map, suc, ◌+◌, Some, None, slice_get, take, refl, sym, ap, subst, arith}
+use Rattle.std.proofs.lemmas.Bool.{false_from_ne_true}
+use Rattle.std.proofs.lemmas.List.{append_cancel_left, drop-drop, drop-map, drop_at, length-drop, map-append, take-append-drop}
+use Rattle.std.proofs.lemmas.List.Elements.{All-append}
 use Rattle.c11_macros.specs.Macros.{Macros}
+use Rattle.c11_macros.specs.Runs.{waits}
 use Rattle.sc_base.specs.declared.id.Cond.{Cond}
-use Rattle.sc_expand.proofs.PassesLaws.{none-behind}
-use Rattle.sc_expand.proofs.PhaseItems.{come-many, comes-by, from-later}
-use Rattle.sc_expand.proofs.PhaseMoves.{ended-state, first-out, has-moved, held-first, start-later, takes-pending}
-use Rattle.sc_expand.proofs.Phases.{Begins, IsReady, Phase, Segments, WaitsHere, at_item, at_start, last_at, state_now, tokens_from}
-use Rattle.sc_expand.proofs.PhaseSegments.{puts-as, segments-Grows}
+use Rattle.sc_expand.proofs.Behind.{behind-falls, below, below-behind}
+use Rattle.sc_expand.proofs.LastLemmas.{behind-drop}
+use Rattle.sc_expand.proofs.PassesLaws.{none-behind, passes-end}
+use Rattle.sc_expand.proofs.PhaseItems.{come-many, comes-by, from-later, item-is}
+use Rattle.sc_expand.proofs.PhaseLists.{length-seen, same-end}
+use Rattle.sc_expand.proofs.PhaseMoves.{ended-state, first-far, first-out, held-first, start-later, state-bottom, takes-pending}
+use Rattle.sc_expand.proofs.Phases.{Begins, Comes, IsReady, Phase, Segments, Waiting, WaitsHere, at_item, at_start, indexes_now, last_at, state_now, tokens_from}
+use Rattle.sc_expand.proofs.PhaseKeeps.{more-at, more-idle, more-is, more-of, number, numbers-parts, waits-turned}
+use Rattle.sc_expand.proofs.PhaseSegments.{indexes-none, puts-as, segments-Grows, segments-kept}
 use Rattle.sc_expand.proofs.Placed as placed
 use Rattle.sc_expand.proofs.Placed.{placed-within}
 use Rattle.sc_expand.proofs.PlainSettles.{HasWaited, has-waited, no-waits}
 use Rattle.sc_expand.proofs.RunLemmas.{IsRunning, bottom-state, running-apart, running-stands, turned-at}
 use Rattle.sc_expand.proofs.SeenLemmas.{seen_at-append}
 use Rattle.sc_expand.specs.declared.expansion.Expansion.{Expansion}
+use Rattle.sc_expand.specs.Having.{behind_at}
 use Rattle.sc_expand.specs.Machine as machine
 use Rattle.sc_expand.specs.Machine.{IsHeldExpansion, Progress, Stands, at}
 use Rattle.sc_expand.specs.Open as open_end
 use Rattle.sc_expand.specs.Running as running
-use Rattle.sc_expand.specs.Running.{HasEnded, IsTurned, Pushes, put_out}
+use Rattle.sc_expand.specs.Running.{HasEnded, IsTurned, Pushes, bottom, put_out}
 use Rattle.sc_expand.specs.Seen.{Grows, Stores, provenance_of, seen_at, view_at}
 use Rattle.sc_expand.specs.Spans as spans
 use Rattle.sc_expand.specs.Turn as turn
 use Rattle.sc_expand.specs.Turn.{EndsBy, held_up}
 use Rattle.sc_expand.specs.Unchanged as unchanged
+use Rattle.sc_guarded.specs.Items.{items_at}
 use Rattle.sc_model.proofs.SetLemmas.{IsConfig-Keeps, IsConfig-kept}
-use Rattle.sc_model.specs.Sets.{IsConfig}
+use Rattle.sc_model.specs.Sets.{IsCond, IsConfig}
 use Rattle.sc_subst.specs.declared.hidden.Hidden.{Hidden}
 
 module _ (files : List (List ℕ)) (macros : List ℕ → Macros) {old now : Stores} {was e : Expansion} (grows : Grows old now) (r : IsRunning files macros old now was e) (began : IsHeldExpansion old (length files) was)
@@ -49,25 +58,27 @@ module _ (files : List (List ℕ)) (macros : List ℕ → Macros) {old now : Sto
       by (running.first item cond one none first (unchanged.pushed some is)) = let low = phase.low in omega (arith, low, ap length is, length-append (put_out e) ((cond, item.1) ∷ []))
       by (running.first item cond one none first (unchanged.absent never is)) = let low = phase.low in omega (arith, low, ap length is)
 
-  pub before-later : Segments files macros old was new phase.at (take phase.outs (put_out after))
+  -- what waits of the item is all that a turn keeps
+  abbrev pub kept-later : List (ℕ × (Cond × Hidden))
+  kept-later = phase.kept ++ more-of grows r new turned.grows after phase.at turned.keeps
+
+  pub kept-later-is : after.rest ≡ map (λ x. x.1) (phase.kept ++ more-of grows r new turned.grows after phase.at turned.keeps)
+  kept-later-is =
+      let more = more-of grows r new turned.grows after phase.at turned.keeps in
+      more-is grows r new turned.grows after phase.at turned.keeps ∙ (ap (λ l. l ++ map (λ (x : ℕ × (Cond × Hidden)). x.1) more) phase.kept_is ∙ sym (map-append (λ (x : ℕ × (Cond × Hidden)). x.1) phase.kept more))
+
+  pub kept-own : All (λ (item : Cond × Hidden). IsCond now.sets item.0.0) (map (λ x. x.1) phase.kept)
+  kept-own = subst (All (λ (item : Cond × Hidden). IsCond now.sets item.0.0)) phase.kept_is r.held.rest.own
+
+  pub before-later : Segments files macros old was new phase.at (take phase.outs (put_out after)) (phase.kept ++ more-of grows r new turned.grows after phase.at turned.keeps)
   before-later =
-      subst (λ l. Segments files macros old was new phase.at l) (sym (first-out files macros grows r began phase ready new after other same turned))
-      (segments-Grows files macros old now was grows turned.grows (held-first files macros grows r began phase ready new after other same turned) phase.before)
+      let more = more-of grows r new turned.grows after phase.at turned.keeps in
+      subst (λ l. Segments files macros old was new phase.at l (phase.kept ++ more)) (sym (first-out files macros grows r began phase ready new after other same turned))
+      (segments-kept files macros old new was phase.kept more (λ k x h. (let here = more-at grows r new turned.grows after phase.at turned.keeps k x h in omega (arith, here)))
+      (segments-Grows files macros old now was grows turned.grows (held-first files macros grows r began phase ready new after other same turned) kept-own phase.before))
 
   never-first : {item : Cond × Hidden} → slice_get e.top.work 0 ≡ Some item → HasEnded e → ⊥
   never-first {item} first ended = let none : None ≡ Some item = sym (ap (λ (l : List (Cond × Hidden)). slice_get l 0) ended.work) ∙ first in cc
-
-  pub begins-later : Begins files macros old new was after phase.came phase.at phase.next
-  begins-later = by phase.begins
-    where
-      by : Begins files macros old now was e phase.came phase.at phase.next → Begins files macros old new was after phase.came phase.at phase.next
-      by (at_item one missed) = at_item one (λ c listed live not. missed c listed (has-moved files macros grows r began phase ready new after other same turned c listed live).live not)
-      by (at_start is_start none_came empty) = at_start is_start none_came (still turned.pushes refl ∙ empty)
-        where
-          still : {b : Bool} → Pushes new.sets e after b → went ≡ b → put_out after ≡ put_out e
-          still (running.nothing is) went_is = is
-          still (running.first item cond one none first behind) went_is = absurd (turned.some went_is (λ c listed takes live.
-              true≢false (sym (taking c (IsConfig-kept grows.sets listed) live takes (never-first first)).came_is ∙ none_came c)))
 
   -- ---- who waits
 
@@ -100,39 +111,158 @@ module _ (files : List (List ℕ)) (macros : List ℕ → Macros) {old now : Sto
         by is (machine.ends (turn.fails failure) live_was dead alike ends) = absurd (true≢false (sym waits_now ∙ (ap (λ x. x.waiting) alike ∙ not)))
         by is (machine.ends turn.waits live_was dead alike ends) = record { live = live_was; takes = is; ends = ends }
 
-    first-waits : BeginsToWait → WaitsHere files macros old new was phase.at phase.next (drop phase.outs (put_out after)) c
-    first-waits b = by (held (b.ends (running-stands grows r c listed b.live)))
+    waits-now : BeginsToWait → open_end.Waits (macros c) (state_now now e c)
+    waits-now b = held (b.ends (running-stands grows r c listed b.live))
       where
         held : EndsBy (provenance_of files) (macros c) true (state_now now e c) turn.waits → open_end.Waits (macros c) (state_now now e c)
         held (held_up whole w) = w
 
-        begun : Begins files macros old now was e phase.came phase.at phase.next
-            → (x : placed.IsWithin (provenance_of files) (macros c) (seen_at old was.top.work c) (phase.came c) (length (tokens_from old was phase.next c)) (seen_at now (take phase.outs (put_out e)) c) (state_now now e c) (last_at now e phase.n c))
-            → (n : HasWaited (provenance_of files) (macros c) x.name (seen_at now (put_out e) c)) → seen_at now (drop phase.outs (put_out e)) c ≡ n.done
-            → WaitsHere files macros old new was phase.at phase.next (drop phase.outs (put_out after)) c
-        begun (at_start is_start none_came empty) x n own = absurd (true≢false (sym x.came_is ∙ none_came c))
-        begun (at_item one missed) x n own =
-            let long = x.long ∙ ap (λ k. length (tokens_from old was k c)) one in
-            record {
-              puts = spans.comes (comes-by files macros old was phase.at c (phase.has c listed x.came_is) x.name.passes long n.runs) (own-same ∙ own);
-              last = λ index le y.
-                  let many = come-many files macros old was index c y in
-                  let before = from-later old was c phase.next index le in
-                  let stood = x.long in
-                  none-behind (provenance_of files) (macros c) x.name.passes n.runs y.passes (omega (arith, many, before, stood));
-            }
+    -- it is in the name's expansion
+    waits-within : BeginsToWait → placed.IsWithin (provenance_of files) (macros c) (seen_at old was.top.work c) (phase.came c) (length (tokens_from old was phase.next c)) (seen_at now (take phase.outs (put_out e)) c) (state_now now e c) (last_at now e phase.n c)
+    waits-within b = taking c listed b.live b.takes (λ ended. no-waits (provenance_of files) (macros c) (waits-now b) (seen_at now e.top.out c) (ended-state now c e ended))
 
-        by : open_end.Waits (macros c) (state_now now e c) → WaitsHere files macros old new was phase.at phase.next (drop phase.outs (put_out after)) c
-        by w =
-            let x = taking c listed b.live b.takes (λ ended. no-waits (provenance_of files) (macros c) w (seen_at now e.top.out c) (ended-state now c e ended)) in
-            let n = has-waited (provenance_of files) (macros c) x.name w (seen_at now (put_out e) c) (λ o left is. (bottom-state now c o left e.below.items e.top is).0) in
-            let own : seen_at now (drop phase.outs (put_out e)) c ≡ n.done =
-            append_cancel_left (seen_at now (take phase.outs (put_out e)) c) (seen_at now (drop phase.outs (put_out e)) c) n.done (sym (parts now e) ∙ (n.is ∙ ap (λ l. l ++ n.done) x.from)) in
-            begun phase.begins x n own
+    abbrev long : ℕ
+    long = length was.top.work
 
-    waits-by : (b : Bool) → now.sets.has e.refusals.waiting.0 c ≡ b → WaitsHere files macros old new was phase.at phase.next (drop phase.outs (put_out after)) c
-    waits-by true is = let w = phase.waits c listed is in record { puts = puts-as files macros old now was new phase.at (drop phase.outs (put_out e)) (drop phase.outs (put_out after)) c own-same w.puts; last = w.last }
-    waits-by false is = first-waits (begins-to-wait is)
+    indexes-same : indexes_now new after long phase.n phase.at kept-later c ≡ indexes_now now e long phase.n phase.at phase.kept c
+    indexes-same =
+        waits-turned grows r new turned.grows after phase.at turned.keeps c listed turned.left waits_now phase.kept kept-own long phase.n (first-far files macros grows r began phase ready)
+        (turned.rest c (IsConfig-Keeps grows.sets listed))
 
-    pub waits-later : WaitsHere files macros old new was phase.at phase.next (drop phase.outs (put_out after)) c
+    abbrev Here : Type 0
+    Here = WaitsHere files macros old new was phase.at phase.next (drop phase.outs (put_out after)) (indexes_now new after long phase.n phase.at kept-later c) c
+
+    -- it came to the item, whose run has come to its end
+    record BeginsHere : Type 0 where
+      one : phase.next ≡ phase.at + 1
+      live : now.sets.has e.refusals.live.0 c ≡ true
+      x : placed.IsWithin (provenance_of files) (macros c) (seen_at old was.top.work c) (phase.came c) (length (tokens_from old was phase.next c)) (seen_at now (take phase.outs (put_out e)) c) (state_now now e c) (last_at now e phase.n c)
+      n : HasWaited (provenance_of files) (macros c) x.name (seen_at now (put_out e) c)
+
+    begins-here : now.sets.has e.refusals.waiting.0 c ≡ false → BeginsHere
+    begins-here not = by phase.begins
+      where
+        b : BeginsToWait
+        b = begins-to-wait not
+
+        by : Begins files macros old now was e phase.came phase.at phase.next → BeginsHere
+        by (at_start is_start none_came empty idle) = absurd (true≢false (sym (waits-within b).came_is ∙ none_came c))
+        by (at_item one missed) = record {
+          one = one;
+          live = b.live;
+          x = waits-within b;
+          n = has-waited (provenance_of files) (macros c) (waits-within b).name (waits-now b) (seen_at now (put_out e) c) (λ o left is. (bottom-state now c o left e.below.items e.top is).0);
+        }
+
+    abbrev long-here : (h : BeginsHere) → length h.x.name.behind ≡ length (tokens_from old was (phase.at + 1) c)
+    long-here h = h.x.long ∙ ap (λ k. length (tokens_from old was k c)) h.one
+
+    abbrev comes-here : BeginsHere → Comes files macros old was phase.at c
+    comes-here h = comes-by files macros old was phase.at c (phase.has c listed h.x.came_is) h.x.name.passes (long-here h) h.n.runs
+
+    pub begins-at : now.sets.has e.refusals.waiting.0 c ≡ false → (phase.came c ≡ true) × (now.sets.has e.refusals.live.0 c ≡ true) × Comes files macros old was phase.at c
+    begins-at not = let h = begins-here not in (h.x.came_is, h.live, comes-here h)
+
+    -- what it has of the list is what was made, and then the last of what it had
+    first-as : now.sets.has e.refusals.waiting.0 c ≡ false → (h : BeginsHere) → Waiting files macros old was (indexes_now new after long phase.n phase.at kept-later c) c
+    first-as not h = record {
+      at = phase.at;
+      comes = comes-here h;
+      name = h.n.name;
+      made = h.n.made;
+      left = h.x.name.left;
+      ends = ap (waits h.n.name) h.n.stands;
+      takes = sym behind_is ∙ (h.x.name.reaches.stands ∙ ap (λ l. l ++ h.x.name.left) (sym h.n.takes));
+      gone = gone;
+      left_is = left-is;
+      is = indexes-same ∙ ((λ i. indexes-none r phase c listed not i ++ map (number long phase.n phase.at) numbers)
+          ∙ (numbers-parts long phase.n phase.at (length (bottom e).work) (h.n.name ∷ h.n.made) numbers (behind-falls now.sets c (bottom e).work) counts
+          ∙ ap (λ l. map (λ t. phase.at) (h.n.name ∷ h.n.made) ++ l) (ap (map (λ j. long - suc j)) lasts ∙ sym (drop-map (λ (j : ℕ). long - suc j) gone (behind_at old.sets was.top.work c)))));
+    }
+      where
+        behind_is : h.x.name.behind ≡ tokens_from old was (phase.at + 1) c
+        behind_is = ap (drop 1) (item-is files macros old was phase.at c (phase.has c listed h.x.came_is) h.x.name.passes (long-here h))
+
+        numbers : List ℕ
+        numbers = behind_at now.sets (bottom e).work c
+
+        most : phase.n ≤ length was.top.work
+        most = let all = phase.most in omega (arith, all)
+
+        had : ℕ
+        had = length (items_at old.sets (take (long - phase.n) was.top.work) c)
+
+        suffix : (g : ℕ) × (below phase.n numbers ≡ drop g (below phase.n (behind_at old.sets was.top.work c)))
+        suffix = phase.suffix c listed h.live phase.n (omega arith)
+
+        gone : ℕ
+        gone = had + suffix.0
+
+        lasts : below phase.n numbers ≡ drop gone (behind_at old.sets was.top.work c)
+        lasts = suffix.1 ∙ (ap (drop suffix.0) (below-behind old.sets c phase.n was.top.work most ∙ behind-drop old.sets (long - phase.n) was.top.work c) ∙ drop-drop suffix.0 had (behind_at old.sets was.top.work c))
+
+        left-is : h.x.name.left ≡ drop gone (seen_at old was.top.work c)
+        left-is =
+            let list = seen_at old was.top.work c in
+            let end = passes-end (provenance_of files) (macros c) h.x.name.passes in
+            let stood = h.x.name.reaches.taken in
+            let is : h.x.name.left ≡ drop (length stood) (drop 1 (drop end.0 list)) = sym (drop_at stood h.x.name.left (length stood) refl) ∙ ap (drop (length stood)) (sym h.x.name.reaches.stands ∙ ap (drop 1) end.1) in
+            let own = h.x.own in
+            same-end (end.0 + 1 + length stood) gone list h.x.name.left (drop gone list) (is ∙ (ap (drop (length stood)) (drop-drop 1 end.0 list) ∙ drop-drop (length stood) (end.0 + 1) list)) refl
+            (omega (arith, own, ap length lasts, length-drop gone (behind_at old.sets was.top.work c), length-drop gone list, length-seen old was.top.work c))
+
+        counts : suc (length h.n.made) + length (below phase.n numbers) ≡ length numbers
+        counts =
+            let own = h.x.own in
+            let all = ap length (sym (state-bottom now e c) ∙ (h.x.name.reaches.bottom_is ∙ ap (λ l. l ++ h.x.name.left) h.n.front)) in
+            omega (arith, own, all, length-append (h.n.name ∷ h.n.made) h.x.name.left, length-seen now (bottom e).work c)
+
+    waits-by : (b : Bool) → now.sets.has e.refusals.waiting.0 c ≡ b → Here
+    waits-by true is =
+        let w = phase.waits c listed is in record {
+          puts = puts-as files macros old now was new phase.at (drop phase.outs (put_out e)) (drop phase.outs (put_out after)) c own-same w.puts;
+          waited = subst (λ l. Waiting files macros old was l c) (sym indexes-same) w.waited;
+          last = w.last;
+        }
+    waits-by false is = let h = begins-here is in record {
+      puts = spans.comes (comes-here h) (own-same
+          ∙ append_cancel_left (seen_at now (take phase.outs (put_out e)) c) (seen_at now (drop phase.outs (put_out e)) c) h.n.done (sym (parts now e) ∙ (h.n.is ∙ ap (λ l. l ++ h.n.done) h.x.from)));
+      waited = first-as is h;
+      last = λ index le y.
+          let many = come-many files macros old was index c y in
+          let before = from-later old was c phase.next index le in
+          let stood = h.x.long in
+          none-behind (provenance_of files) (macros c) h.x.name.passes h.n.runs y.passes (omega (arith, many, before, stood));
+    }
+
+    pub waits-later : WaitsHere files macros old new was phase.at phase.next (drop phase.outs (put_out after)) (indexes_now new after (length was.top.work) phase.n phase.at kept-later c) c
     waits-later = waits-by (now.sets.has e.refusals.waiting.0 c) refl
+
+  pub begins-later : Begins files macros old new was after phase.came phase.at phase.next
+  begins-later = by phase.begins
+    where
+      by : Begins files macros old now was e phase.came phase.at phase.next → Begins files macros old new was after phase.came phase.at phase.next
+      by (at_item one missed) = at_item one missed
+      by (at_start is_start none_came empty idle) = at_start is_start none_came (still turned.pushes refl ∙ empty) (λ c listed.
+          false_from_ne_true (new.sets.has after.refusals.waiting.0 c) (λ waits. true≢false (sym (waits-within c listed waits (begins-to-wait c listed waits (idle c listed))).came_is ∙ none_came c)))
+        where
+          still : {b : Bool} → Pushes new.sets e after b → went ≡ b → put_out after ≡ put_out e
+          still (running.nothing is) went_is = is
+          still (running.first item cond one none first behind) went_is = absurd (turned.some went_is (λ c listed takes live.
+              true≢false (sym (taking c (IsConfig-kept grows.sets listed) live takes (never-first first)).came_is ∙ none_came c)))
+
+  -- each element that waits is of the item, or of one before it
+  pub behind-later : All (λ x. x.0 < length was.top.work - phase.n) (phase.kept ++ more-of grows r new turned.grows after phase.at turned.keeps)
+  behind-later = by begins-later
+    where
+      Low : ℕ × (Cond × Hidden) → Type 0
+      Low x = x.0 < length was.top.work - phase.n
+
+      by : Begins files macros old new was after phase.came phase.at phase.next → All Low (phase.kept ++ more-of grows r new turned.grows after phase.at turned.keeps)
+      by (at_item one missed) =
+          let most = phase.most in
+          All-append Low phase.kept (more-of grows r new turned.grows after phase.at turned.keeps) phase.behind
+          (λ k x h. (let here = more-at grows r new turned.grows after phase.at turned.keeps k x h in omega (arith, here, one, most)))
+      by (at_start is_start none_came empty idle) =
+          let none = more-idle grows r new turned.grows after phase.at turned.keeps idle (λ c listed. IsConfig-kept grows.sets (IsConfig-kept turned.grows.sets listed)) in
+          subst (All Low) (sym (ap (λ l. phase.kept ++ l) none ∙ append-nil phase.kept)) phase.behind

@@ -1,21 +1,25 @@
 -- The expansion of one name of the list under all configurations that come to it: where each
 -- stands, and what those that expand it alike have alike.
-use Rattle.std.proofs.Common.{◌≡◌, ℕ, ◌+◌, ◌-◌, ◌≤◌, suc, Bool, true, false, List, [], ◌∷◌, drop, length, take}
+use Rattle.std.proofs.Common.{◌≡◌, ◌⊎◌, ℕ, ◌+◌, ◌-◌, ◌<◌, ◌≤◌, suc, Bool, true, false, List, [], ◌∷◌, ◌++◌, All, drop, length, map, take}
 use Rattle.c11_macros.specs.Hidden as model
 use Rattle.c11_macros.specs.Macros.{Macros}
 use Rattle.sc_base.specs.declared.id.Cond.{Cond}
 use Rattle.sc_base.specs.declared.place.Place.{Place}
 use Rattle.sc_expand.proofs.Behind.{below}
+use Rattle.sc_expand.proofs.PhaseKeeps.{number}
 use Rattle.sc_expand.proofs.Placed.{Placed}
-use Rattle.sc_expand.specs.Alike.{IsAlikeExpansion}
+use Rattle.sc_expand.specs.Alike.{IsAlikeExpansion, Others}
 use Rattle.sc_expand.specs.declared.expansion.Expansion.{Expansion}
 use Rattle.sc_expand.specs.FootprintSteps.{IsPending, lower_of}
 use Rattle.sc_expand.specs.Having.{behind_at}
 use Rattle.sc_expand.specs.Machine.{state_in}
-use Rattle.sc_expand.specs.Plain.{State}
+use Rattle.sc_expand.specs.Open.{Waits}
+use Rattle.sc_expand.specs.Plain.{State, scanning}
 use Rattle.sc_expand.specs.Running.{bottom, put_out}
 use Rattle.sc_expand.specs.Seen.{Stores, provenance_of, seen_at, view_at}
-use Rattle.sc_expand.specs.Spans.{ComesAt, InSegments, IsSettling, IsSpan, PutsOutAt}
+use Rattle.sc_expand.specs.Spans.{ComesAt, InSegments, IsItself, IsSameName, IsSettling, IsSpan, PutsOutAt, WaitsAs, indexes_in, of_item}
+use Rattle.sc_guarded.specs.Items.{items_at}
+use Rattle.sc_hoist.specs.Alike.{AreAlike}
 use Rattle.sc_model.specs.Sets.{IsConfig}
 use Rattle.sc_subst.specs.declared.hidden.Hidden.{Hidden}
 use Rattle.sc_subst.specs.Seen.{seen_hidden}
@@ -31,9 +35,26 @@ last_at st e n c = length (below n (behind_at st.sets (bottom e).work c))
 abbrev pub bound_of : Expansion → ℕ → ℕ → ℕ
 bound_of was at size = length (drop (at + 1) was.top.work) - size
 
+-- The indexes by which what waits of a configuration is told, and what it has left: of the last n
+-- items each by its own, all else by that of the item that is being expanded.
+abbrev pub indexes_now : Stores → Expansion → (long n at : ℕ) → List (ℕ × (Cond × Hidden)) → List ℕ → List ℕ
+indexes_now st e long n at kept c = indexes_in st.sets kept c ++ map (number long n at) (behind_at st.sets (bottom e).work c)
+
 -- what the configuration has from an index of the list on
 abbrev pub tokens_from : Stores → Expansion → ℕ → List ℕ → List (model.Hidden Place)
 tokens_from old was at c = seen_at old (drop at was.top.work) c
+
+-- the configuration has only the last n items of the list, and no call waits there
+pub record IsOver (now : Stores) (e : Expansion) (n : ℕ) (c : List ℕ) : Type 0 where
+  pub own : length (seen_at now (bottom e).work c) ≤ last_at now e n c
+  pub stays : (now.sets.has e.refusals.live.0 c ≡ true) ⊎ (now.sets.has e.refusals.waiting.0 c ≡ true)
+  pub rests : now.sets.has e.refusals.live.0 c ≡ true → IsPending (state_now now e c) (last_at now e n c) → ⊥
+
+-- Two configurations have the same of an item that they expand alike, or neither has anything left
+-- of it, and it became the same for both, but that the one may be ahead.
+pub data PairStands (now : Stores) (e : Expansion) (others : Others) (n outs : ℕ) (of : List (Cond × Hidden)) (c d : List ℕ) : Type 0 where
+  as_one : IsAlikeExpansion now.sets c d others e → AreAlike now.sets c d of → PairStands now e others n outs of c d
+  come_through : IsOver now e n c → IsOver now e n d → IsSameName now.sets (drop outs (put_out e)) of c d → PairStands now e others n outs of c d
 
 -- the configuration has the item at this index of the list
 pub record HasItem (old : Stores) (was : Expansion) (at : ℕ) (c : List ℕ) : Type 0 where
@@ -59,19 +80,49 @@ module _ (files : List (List ℕ)) (macros : List ℕ → Macros) where
   Puts old was at now out c = PutsOutAt (seen_hidden old.names old.hides) (provenance_of files) macros old.sets was.top.work at now.sets (seen_hidden now.names now.hides) out c
 
   -- and this for so many first items
-  abbrev pub Segments : Stores → Expansion → Stores → ℕ → List (Cond × Hidden) → Type 0
-  Segments old was now count out = InSegments (seen_hidden old.names old.hides) (provenance_of files) macros old.sets was.top.work was.refusals.live.0 now.sets (seen_hidden now.names now.hides) count out
+  abbrev pub Segments : Stores → Expansion → Stores → ℕ → List (Cond × Hidden) → List (ℕ × (Cond × Hidden)) → Type 0
+  Segments old was now count out kept = InSegments (seen_hidden old.names old.hides) (provenance_of files) macros old.sets was.top.work was.refusals.live.0 now.sets (seen_hidden now.names now.hides) count out kept
 
-  -- The item at an index is being expanded, and configurations that do not come to it go on; or
-  -- nothing was put out yet.
+  -- The item at an index is being expanded, and it is known who came to it; or nothing was put out
+  -- yet, and no configuration waits.
   pub data Begins (old now : Stores) (was e : Expansion) (came : List ℕ → Bool) (at next : ℕ) : Type 0 where
-    at_item : next ≡ at + 1 → ((c : List ℕ) → IsConfig old.sets.arities c → now.sets.has e.refusals.live.0 c ≡ true → came c ≡ false → Comes old was at c → ⊥) → Begins old now was e came at next
-    at_start : next ≡ 0 → ((c : List ℕ) → came c ≡ false) → put_out e ≡ [] → Begins old now was e came at next
+    at_item : next ≡ at + 1 → ((c : List ℕ) → IsConfig old.sets.arities c → old.sets.has was.refusals.live.0 c ≡ true → Settling old was c → came c ≡ false → Comes old was at c → ⊥) → Begins old now was e came at next
+    at_start : next ≡ 0 → ((c : List ℕ) → came c ≡ false) → put_out e ≡ [] → ((c : List ℕ) → IsConfig old.sets.arities c → now.sets.has e.refusals.waiting.0 c ≡ false) → Begins old now was e came at next
 
-  -- a configuration that waits comes to no item behind this one, for which this is put out
-  pub record WaitsHere (old now : Stores) (was : Expansion) (at next : ℕ) (out : List (Cond × Hidden)) (c : List ℕ) : Type 0 where
+  -- a configuration waits at an item, and these are the indexes of what waits
+  abbrev pub Waiting : Stores → Expansion → List ℕ → List ℕ → Type 0
+  Waiting old was indexes c = WaitsAs (seen_hidden old.names old.hides) (provenance_of files) macros old.sets was.top.work indexes c
+
+  -- it comes to no item behind this one, for which this is put out
+  pub record WaitsHere (old now : Stores) (was : Expansion) (at next : ℕ) (out : List (Cond × Hidden)) (indexes : List ℕ) (c : List ℕ) : Type 0 where
     pub puts : Puts old was at now out c
+    pub waited : Waiting old was indexes c
     pub last : (index : ℕ) → next ≤ index → Comes old was index c → ⊥
+
+  -- The item itself stands first, and all that was made is behind it: it is what each configuration
+  -- has next that came to it.
+  pub record IsFresh (old now : Stores) (was e : Expansion) (came : List ℕ → Bool) (at n : ℕ) (kept : List (ℕ × (Cond × Hidden))) : Type 0 where
+    pub below : e.below.items ≡ []
+    pub calls : e.top.calls.items ≡ []
+    pub first : Cond × Hidden
+    pub rest : List (Cond × Hidden)
+    pub work : e.top.work ≡ first ∷ rest
+    pub long : length rest ≡ n
+    pub none : of_item at kept ≡ []
+    pub has : (c : List ℕ) → IsConfig old.sets.arities c → came c ≡ true → now.sets.has first.0.0 c ≡ true
+    pub starts : (c : List ℕ) → IsConfig old.sets.arities c → came c ≡ true → (item : HasItem old was at c) × (seen_at now e.top.work c ≡ seen_hidden old.names old.hides item.item.1 ∷ tokens_from old was (at + 1) c)
+
+  -- where it waits the item itself does
+  abbrev pub Itself : Stores → Expansion → ℕ → List ℕ → Type 0
+  Itself old was at c = IsItself (seen_hidden old.names old.hides) (provenance_of files) macros old.sets was.top.work at c
+
+  -- The item itself is gone: who came to it and goes on did not wait at once, and who has the item
+  -- itself waiting has the first element of what waits of it, or none.
+  pub record IsWorn (old now : Stores) (was e : Expansion) (came : List ℕ → Bool) (at n : ℕ) (kept : List (ℕ × (Cond × Hidden))) : Type 0 where
+    pub moved : (c : List ℕ) → IsConfig old.sets.arities c → came c ≡ true → now.sets.has e.refusals.live.0 c ≡ true
+        → (x : Comes old was at c) → Waits (macros c) (scanning [] (seen_hidden old.names old.hides x.item.1 ∷ tokens_from old was (at + 1) c)) → ⊥
+    pub over : (c : List ℕ) → IsConfig old.sets.arities c → now.sets.has e.refusals.waiting.0 c ≡ true → Itself old was at c → IsOver now e n c
+    pub first : (c : List ℕ) → IsConfig old.sets.arities c → now.sets.has e.refusals.waiting.0 c ≡ true → Itself old was at c → items_at now.sets (drop 1 (of_item at kept)) c ≡ []
 
   -- The list began as `was`, and the item at an index of it is being expanded. The last n items are
   -- its own.
@@ -87,19 +138,22 @@ module _ (files : List (List ℕ)) (macros : List ℕ → Macros) where
     pub came : List ℕ → Bool
     pub begins : Begins old now was e came at next
     -- what was put out is that of the items before it, and then its own
-    pub before : Segments old was now at (take outs (put_out e))
-    pub waits : (c : List ℕ) → IsConfig old.sets.arities c → now.sets.has e.refusals.waiting.0 c ≡ true → WaitsHere old now was at next (drop outs (put_out e)) c
+    pub kept : List (ℕ × (Cond × Hidden))
+    pub kept_is : e.rest ≡ map (λ x. x.1) kept
+    pub behind : All (λ x. x.0 < length was.top.work - n) kept
+    pub once : (k : ℕ) → next ≤ k → length (of_item k kept) ≤ 1
+    pub worn : IsFresh old now was e came at n kept ⊎ IsWorn old now was e came at n kept
+    pub before : Segments old was now at (take outs (put_out e)) kept
+    pub waits : (c : List ℕ) → IsConfig old.sets.arities c → now.sets.has e.refusals.waiting.0 c ≡ true → WaitsHere old now was at next (drop outs (put_out e)) (indexes_now now e (length was.top.work) n at kept c) c
     pub has : (c : List ℕ) → IsConfig old.sets.arities c → came c ≡ true → HasItem old was at c
     pub place : (c : List ℕ) → IsConfig old.sets.arities c → now.sets.has e.refusals.live.0 c ≡ true
         → Placed (provenance_of files) (macros c) (seen_at old was.top.work c) (came c) (length (tokens_from old was next c)) (seen_at now (take outs (put_out e)) c) (state_now now e c) (last_at now e n c)
     -- its own items are the last that it had
     pub suffix : (c : List ℕ) → IsConfig old.sets.arities c → now.sets.has e.refusals.live.0 c ≡ true → (m : ℕ) → m ≤ n
         → (g : ℕ) × (below m (behind_at now.sets (bottom e).work c) ≡ drop g (below m (behind_at old.sets was.top.work c)))
-    -- who expand it alike have the same of all that was made
-    pub alike : (size : ℕ) (c d : List ℕ) → IsConfig old.sets.arities c → IsConfig old.sets.arities d → Spans old was at size c d
-        → now.sets.has e.refusals.live.0 c ≡ true → now.sets.has e.refusals.live.0 d ≡ true
-        → IsPending (state_now now e c) (last_at now e n c) → IsPending (state_now now e d) (last_at now e n d)
-        → IsAlikeExpansion now.sets c d (record { behind = lower_of (bound_of was at size) n; out = outs; faults = faults }) e
+    -- who expand it alike have the same of all that was made, or have come through it
+    pub pairs : (size : ℕ) (c d : List ℕ) → IsConfig old.sets.arities c → IsConfig old.sets.arities d → Spans old was at size c d → came c ≡ true → came d ≡ true
+        → PairStands now e (record { behind = lower_of (bound_of was at size) n; out = outs; faults = faults }) n outs (of_item at kept) c d
 
   -- the next turn takes no token but one that was made, or the name itself
   pub record IsReady {old now : Stores} {was e : Expansion} (phase : Phase old now was e) : Type 0 where

@@ -1,9 +1,9 @@
 -- What is to be done at a token, by what is known of it.
-use Rattle.std.proofs.Common.{◌≡◌, ℕ, zero, Bool, true, false, List, [], ◌∷◌, length, codes, Option, Some, None, refl, ap, ◌∙◌, if◌then◌else◌}
+use Rattle.std.proofs.Common.{◌≡◌, ℕ, zero, Bool, true, false, List, [], ◌∷◌, length, codes, Option, Some, None, refl, ap, ◌∙◌, if◌then◌else◌, is_some}
 use Rattle.c11_macros.specs.Call.{Call, call_of}
 use Rattle.c11_macros.specs.Expansion.{call_case, case_of, defined_case, form_case, is_looked_up, looked_up_case, replaced, stays, unclosed}
 use Rattle.c11_macros.specs.Hidden.{Hidden}
-use Rattle.c11_macros.specs.Macros.{Definition, Form, Macros, function_like, object_like}
+use Rattle.c11_macros.specs.Macros.{Definition, Form, Macros, Rest, function_like, object_like}
 use Rattle.sc_model.specs.Bytes.{same_bytes}
 
 module _ {P : Type 0} (macros : Macros) (t : Hidden P) where
@@ -24,20 +24,20 @@ module _ {P : Type 0} (macros : Macros) (t : Hidden P) where
     pub case-object : (rest : List (Hidden P)) → d.form ≡ object_like → case_of macros t rest ≡ replaced d
     case-object rest formed = case-formed rest object_like formed
 
-    module _ (parameters : List (List ℕ)) (variadic : Bool) (formed : d.form ≡ function_like parameters variadic) where
+    module _ (parameters : List (List ℕ)) (variadic : Option Rest) (formed : d.form ≡ function_like parameters variadic) where
       -- nothing follows the name
       pub case-alone : case_of macros t [] ≡ stays
       case-alone = case-formed [] (function_like parameters variadic) formed
 
       -- another token than ( follows it
       pub case-bare : (u : Hidden P) (us : List (Hidden P)) → same_bytes u.spelling (codes "(") ≡ false → case_of macros t (u ∷ us) ≡ stays
-      case-bare u us other = case-formed (u ∷ us) (function_like parameters variadic) formed ∙ ap (λ b. if b then call_case d parameters variadic (call_of (length parameters) zero us) else stays) other
+      case-bare u us other = case-formed (u ∷ us) (function_like parameters variadic) formed ∙ ap (λ b. if b then call_case d parameters (is_some variadic) (call_of (length parameters) zero us) else stays) other
 
       module _ (u : Hidden P) (us : List (Hidden P)) (opens : same_bytes u.spelling (codes "(") ≡ true) where
-        pub case-call : (o : Option (Call P)) → call_of (length parameters) zero us ≡ o → case_of macros t (u ∷ us) ≡ call_case d parameters variadic o
+        pub case-call : (o : Option (Call P)) → call_of (length parameters) zero us ≡ o → case_of macros t (u ∷ us) ≡ call_case d parameters (is_some variadic) o
         case-call o call =
             case-formed (u ∷ us) (function_like parameters variadic) formed
-            ∙ (ap (λ b. if b then call_case d parameters variadic (call_of (length parameters) zero us) else stays) opens ∙ ap (call_case d parameters variadic) call)
+            ∙ (ap (λ b. if b then call_case d parameters (is_some variadic) (call_of (length parameters) zero us) else stays) opens ∙ ap (call_case d parameters (is_some variadic)) call)
 
         pub case-open : call_of (length parameters) zero us ≡ None → case_of macros t (u ∷ us) ≡ unclosed
         case-open none = case-call None none

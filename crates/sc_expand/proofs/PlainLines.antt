@@ -1,5 +1,5 @@
 -- What an expansion puts out stands on one line.
-use Rattle.std.proofs.Common.{◌≡◌, is_ok, set, ℕ, zero, suc, ◌+◌, ◌==◌, ◌/◌, ◌%◌, ◌&&◌, ◌||◌, not, Bool, true, false, List, [], ◌∷◌, ◌++◌, All, IfOk, map, length, codes, decimal, Option, Some, None, Result, Ok, refl, sym, ap, subst, ◌∙◌, arith, if◌then◌else◌}
+use Rattle.std.proofs.Common.{◌≡◌, is_ok, set, ℕ, zero, suc, ◌+◌, ◌==◌, ◌/◌, ◌%◌, ◌&&◌, ◌||◌, not, Bool, true, false, List, [], ◌∷◌, ◌++◌, All, IfOk, map, length, codes, decimal, Option, Some, None, Result, Ok, refl, sym, ap, subst, ◌∙◌, arith, if◌then◌else◌, is_some}
 use Rattle.std.proofs.lemmas.Bool.{ne_eqb, not-true, not_from_false, or_from, or_parts}
 use Rattle.std.proofs.lemmas.List.Elements.{All-from_recursion, recursion_from_All}
 use Rattle.std.proofs.lemmas.List.Folds.{list_any-append}
@@ -7,7 +7,7 @@ use Rattle.std.specs.Fmt.{digit_glyph, digits, digits_onto}
 use Rattle.std.specs.List.{AllByRecursion as Every}
 use Rattle.std.specs.Option.{IfSome}
 use Rattle.std.specs.Prelude.{nat_lt}
-use Rattle.c11_macros.specs.Call.{Call, Role, opening, closing, comma, other, apart, arguments_for, call_of, call_step, counts, filled_up, given, is_nothing, onto, onto_argument, role_of}
+use Rattle.c11_macros.specs.Call.{Call, Role, opening, closing, comma, other, apart, arguments_for, call_of, call_step, counts_for, filled_up, given, is_nothing, onto, onto_argument, role_of}
 use Rattle.c11_macros.specs.Expansion as expansion
 use Rattle.c11_macros.specs.Expansion.{Case, stays, replaced, unclosed, misfit, called, asked, call_result, call_case, case_of, defined_case, fitted_case, form_case, is_looked_up, list_of, looked_up_case, with_first, Expands, Each, Rescans}
 use Rattle.c11_macros.specs.Hidden.{Failure, Hidden, HideSet, Provenance, meet, with_name}
@@ -16,7 +16,7 @@ use Rattle.c11_macros.specs.Macros.{Definition, Form, IsOneLineList, Macros, Rep
 use Rattle.sc_model.specs.Token.{Item}
 use Rattle.c11_macros.specs.Runs as runs
 use Rattle.c11_macros.specs.Runs.{End, over, waits, fails, Leaves, within, beyond, Passes, Runs, Settles, Uses}
-use Rattle.c11_macros.specs.Substitution.{argument, is_quoted_kind, neither, parts, quoted_spelling, slots, spellings, spellings_after, substituted, wanted_of}
+use Rattle.c11_macros.specs.Substitution.{argument, is_quoted_kind, list_slots, quoted_spelling, spellings, spellings_after, substituted, wanted_of}
 use Rattle.sc_expand.specs.OneLine.{AreOneLine, IsInPlace, IsOneLine}
 use Rattle.sc_model.specs.Bytes.{has_no_newline, same_bytes}
 use Rattle.sc_model.specs.Token.{Place}
@@ -147,7 +147,7 @@ module _ {P : Type 0} (provenance : Provenance P) where
   arguments_for-plain : (parameters : List (List ℕ)) (variadic : Bool) (arguments : List (List (Hidden P))) → Every Plains arguments → IfSome (arguments_for parameters variadic arguments) (Every Plains)
   arguments_for-plain parameters variadic arguments h =
       let list = given parameters variadic arguments in
-      both (λ (o : Option (List (List (Hidden P)))). IfSome o (Every Plains)) (counts (function_like parameters variadic) (length list)) (Some (filled_up parameters variadic list)) None
+      both (λ (o : Option (List (List (Hidden P)))). IfSome o (Every Plains)) (counts_for parameters variadic (length list)) (Some (filled_up parameters variadic list)) None
       (filled_up-plain parameters variadic list (given-plain parameters variadic arguments h)) tt
 
   -- ---- what is to be done at a token
@@ -180,7 +180,7 @@ module _ {P : Type 0} (provenance : Provenance P) where
   form_case-plain d (function_like parameters variadic) [] list h = tt
   form_case-plain d (function_like parameters variadic) (t ∷ ts) list h =
       let here = call_of (length parameters) zero ts in
-      both PlainCase (same_bytes t.spelling (codes "(")) (call_case d parameters variadic here) stays (call_case-plain d parameters variadic here list (call_of-plain (length parameters) zero ts h.1)) tt
+      both PlainCase (same_bytes t.spelling (codes "(")) (call_case d parameters (is_some variadic) here) stays (call_case-plain d parameters (is_some variadic) here list (call_of-plain (length parameters) zero ts h.1)) tt
 
   defined_case-plain : (o : Option Definition) (rest : List (Hidden P)) → ((d : Definition) → o ≡ Some d → IsOneLineList d.replacement) → Plains rest → PlainCase (defined_case o rest)
   defined_case-plain None rest lists h = tt
@@ -221,7 +221,7 @@ module _ {P : Type 0} (provenance : Provenance P) where
       asked-plain : (d : Definition) (t : Hidden P) (arguments : List (List (Hidden P))) → Every Plains arguments → Every (λ (ask : ℕ × List (Hidden P)). Plains ask.1) (asked provenance d t arguments)
       asked-plain d t arguments h =
           let list = list_of provenance d t in
-          both (Every (λ (ask : ℕ × List (Hidden P)). Plains ask.1)) (is_ok (slots t arguments (parts d.form neither list))) (map (λ n. (n, argument arguments n)) (wanted_of d.form list)) [] (asks-plain arguments (wanted_of d.form list) h) tt
+          both (Every (λ (ask : ℕ × List (Hidden P)). Plains ask.1)) (is_ok (list_slots t arguments d.form list)) (map (λ n. (n, argument arguments n)) (wanted_of d.form list)) [] (asks-plain arguments (wanted_of d.form list) h) tt
 
       unexpanded-plain : (arguments : List (List (Hidden P))) → Every Plains (map (λ a. []) arguments)
       unexpanded-plain [] = tt

@@ -6,7 +6,7 @@ use Rattle.c11_macros.specs.Hidden.{Failure, Hidden, Provenance, failure_at, mee
 use Rattle.c11_macros.specs.Macros.{Definition, Macros}
 use Rattle.c11_macros.specs.Results.{result_and_then}
 use Rattle.c11_macros.specs.Runs.{after_these}
-use Rattle.c11_macros.specs.Substitution.{Slot, argument, neither, parts, put_together, slots, wanted_of}
+use Rattle.c11_macros.specs.Substitution.{Slot, argument, list_slots, put_together, wanted_of}
 use Rattle.c11_macros.specs.Trace.{Trace, looked_up_at, no_trace, trace, trace_each, trace_rescan}
 use Rattle.sc_expand.proofs.PlainArguments.{replaced_with, supplied}
 use Rattle.sc_expand.proofs.PlainCompletes.{Completes, asks, looked, refuses, replaces, resumes, scanned, scans, steps}
@@ -75,7 +75,7 @@ module _ {P : Type 0} (provenance : Provenance P) (macros : Macros) where
       }
 
   -- the arguments that are asked for, where no # fails
-  pub asked-each : (d : Definition) (t : Hidden P) (arguments : List (List (Hidden P))) (results : Result (List (List (Hidden P))) (Failure P)) → is_ok (slots t arguments (parts d.form neither (list_of provenance d t))) ≡ true
+  pub asked-each : (d : Definition) (t : Hidden P) (arguments : List (List (Hidden P))) (results : Result (List (List (Hidden P))) (Failure P)) → is_ok (list_slots t arguments d.form (list_of provenance d t)) ≡ true
       → (e : Each provenance macros (map (λ n. (n, argument arguments n)) (wanted_of d.form (list_of provenance d t))) (map (λ a. []) arguments) results)
       → (f : Each provenance macros (asked provenance d t arguments) (map (λ a. []) arguments) results) × (trace_each f ≡ trace_each e)
   asked-each d t arguments results is e =
@@ -126,7 +126,7 @@ module _ {P : Type 0} (provenance : Provenance P) (macros : Macros) where
   -- ---- failures
 
   -- no argument is asked for where a # fails
-  pub none-asked : (d : Definition) (t : Hidden P) (arguments : List (List (Hidden P))) (failure : Failure P) → slots t arguments (parts d.form neither (list_of provenance d t)) ≡ Err failure
+  pub none-asked : (d : Definition) (t : Hidden P) (arguments : List (List (Hidden P))) (failure : Failure P) → list_slots t arguments d.form (list_of provenance d t) ≡ Err failure
       → (e : Each provenance macros (asked provenance d t arguments) (map (λ a. []) arguments) (Ok (map (λ a. []) arguments))) × (trace_each e ≡ no_trace)
   none-asked d t arguments failure is =
       let same : asked provenance d t arguments ≡ [] = ap (λ made. if is_ok made then map (λ n. (n, argument arguments n)) (wanted_of d.form (list_of provenance d t)) else []) is in

@@ -1,17 +1,17 @@
 -- Expansion commutes with a map of what is kept of the places of tokens.
-use Rattle.std.proofs.Common.{◌≡◌, is_ok, ℕ, zero, suc, ◌==◌, ◌&&◌, ◌||◌, Bool, true, false, List, [], ◌∷◌, ◌++◌, map, length, codes, Option, Some, None, Result, Ok, Err, refl, sym, ap, subst, ◌∙◌, if◌then◌else◌}
+use Rattle.std.proofs.Common.{◌≡◌, is_ok, ℕ, zero, suc, ◌==◌, ◌&&◌, ◌||◌, Bool, true, false, List, [], ◌∷◌, ◌++◌, map, length, codes, Option, Some, None, Result, Ok, Err, refl, sym, ap, subst, ◌∙◌, if◌then◌else◌, is_some, not, cond}
 use Rattle.std.proofs.lemmas.List.{length-map, map-append, map-set}
 use Rattle.std.proofs.Math.ListN.{get_or-map}
 use Rattle.std.specs.Option.{option_map}
 use Rattle.c11_macros.proofs.Agreement.{EachBy, RescansBy}
-use Rattle.c11_macros.specs.Call.{Call, Role, opening, closing, comma, other, apart, arguments_for, call_of, call_step, counts, filled_up, given, is_nothing, onto, onto_argument, role_of}
+use Rattle.c11_macros.specs.Call.{Call, Role, opening, closing, comma, other, apart, arguments_for, call_of, call_step, counts_for, filled_up, given, is_nothing, onto, onto_argument, role_of}
 use Rattle.c11_macros.specs.Expansion.{Case, stays, replaced, unclosed, misfit, called, asked, call_case, call_result, case_of, defined_case, fitted_case, form_case, is_looked_up, list_of, looked_up_case, object_result, with_first, Expands, empty, stay, object, unterminated, miscounted, call, Each, next, none, stops, Rescans, on, refused}
 use Rattle.c11_macros.specs.Hidden.{Failure, Hidden, HideSet, Provenance, failure_at, meet, no_names, with_name}
 use Rattle.c11_macros.specs.Macros.{Definition, Form, Macros, function_like, list_at, object_like}
 use Rattle.sc_model.specs.Token.{Item}
 use Rattle.c11_macros.specs.Results.{result_and_then, result_map}
 use Rattle.c11_macros.specs.Substitution as substitution
-use Rattle.c11_macros.specs.Substitution.{Part, Piece, Slot, all_glued, argument, argument_pieces, begins_paste, filled, filled_by, for_parameter, for_paste, glued, hidden_by, hiding, is_text_kind, joined, literal_of, neither, operator, or_placemarker, parts, put_together, wanted_of, pasted_as, piece, pieces_of, placemarker, quoted_spelling, slot_of, slots, spellings, spellings_after, stringized, substituted, tokens_of, with_space}
+use Rattle.c11_macros.specs.Substitution.{Part, Piece, Slot, all_glued, argument, argument_pieces, begins_paste, filled, filled_by, for_parameter, for_paste, glued, hidden_by, hiding, is_deleted, is_empty, is_text_kind, joined, kept, list_slots, literal_of, operator, or_placemarker, parts_of, put_together, wanted_of, pasted_as, piece, pieces_of, placemarker, quoted_spelling, slot_of, slots, spellings, spellings_after, stringized, substituted, tokens_of, with_space}
 use Rattle.c11_macros.specs.Trace.{ExpandsBy, Trace, after_step, both, failing, looked_up_at, looks_up, stands, takes, taking, taking_call, trace, trace_each, trace_rescan}
 use Rattle.c11_tokens.specs.Relex.{relexed}
 use Rattle.sc_expand.specs.Moved.{IsKept, moved, moved_answer, moved_failure}
@@ -96,6 +96,7 @@ module _ {P Q : Type 0} (f : P → Q) where
           ∙ carried-map (moved f) moved_slot (moved_failure f) filled_by filled_by (λ t. refl) (stringized head space (argument raw n))
       slot-moved (substitution.parameter n space) = refl
       slot-moved substitution.paste = refl
+      slot-moved (substitution.comma item n) = refl
 
       slots-moved : (ps : List Part) → slots (moved f head) (map all raw) ps ≡ carried (map moved_slot) (moved_failure f) (slots head raw ps)
       slots-moved [] = refl
@@ -106,6 +107,27 @@ module _ {P Q : Type 0} (f : P → Q) where
           ap (result_map (λ rest. moved_slot s ∷ rest)) (slots-moved ps)
           ∙ carried-map (map moved_slot) (map moved_slot) (moved_failure f) (λ rest. s ∷ rest) (λ rest. moved_slot s ∷ rest) (λ rest. refl) (slots head raw ps))
           (slot_of head raw p)
+
+      -- the same commas are deleted
+      deleted-moved : (p : Part) → is_deleted (map all raw) p ≡ is_deleted raw p
+      deleted-moved (substitution.token item) = refl
+      deleted-moved (substitution.literal n space) = refl
+      deleted-moved (substitution.parameter n space) = refl
+      deleted-moved substitution.paste = refl
+      deleted-moved (substitution.comma item n) = ap is_empty (argument-moved raw n) ∙ empty-moved (argument raw n)
+        where
+          empty-moved : (ts : List (Hidden P)) → is_empty (all ts) ≡ is_empty ts
+          empty-moved [] = refl
+          empty-moved (t ∷ ts) = refl
+
+      kept-moved : (ps : List Part) → kept (map all raw) ps ≡ kept raw ps
+      kept-moved [] = refl
+      kept-moved (p ∷ ps) =
+          ap (λ b. cond (not b) (p ∷ kept (map all raw) ps) (kept (map all raw) ps)) (deleted-moved p)
+          ∙ ap (λ qs. cond (not (is_deleted raw p)) (p ∷ qs) qs) (kept-moved ps)
+
+      list_slots-moved : (form : Form) (items : List Item) → list_slots (moved f head) (map all raw) form items ≡ carried (map moved_slot) (moved_failure f) (list_slots head raw form items)
+      list_slots-moved form items = ap (slots (moved f head) (map all raw)) (kept-moved (parts_of form items)) ∙ slots-moved (kept raw (parts_of form items))
 
   -- ---- arguments in the places of parameters
 
@@ -241,17 +263,17 @@ module _ {P Q : Type 0} (f : P → Q) where
       ∙ carried-if (map all) (variadic && length arguments == length parameters) (arguments ++ [] ∷ []) arguments
 
   fitting-moved : (parameters : List (List ℕ)) (variadic : Bool) (arguments : List (List (Hidden P)))
-      → (if counts (function_like parameters variadic) (length (map all arguments)) then Some (filled_up parameters variadic (map all arguments)) else None)
-      ≡ option_map (map all) (if counts (function_like parameters variadic) (length arguments) then Some (filled_up parameters variadic arguments) else None)
+      → (if counts_for parameters variadic (length (map all arguments)) then Some (filled_up parameters variadic (map all arguments)) else None)
+      ≡ option_map (map all) (if counts_for parameters variadic (length arguments) then Some (filled_up parameters variadic arguments) else None)
   fitting-moved parameters variadic arguments =
-      ap (λ n. if counts (function_like parameters variadic) n then Some (filled_up parameters variadic (map all arguments)) else None) (length-map arguments all)
-      ∙ ap (λ xs. if counts (function_like parameters variadic) (length arguments) then Some xs else None) (filled_up-moved parameters variadic arguments)
-      ∙ carried-if (option_map (map all)) (counts (function_like parameters variadic) (length arguments)) (Some (filled_up parameters variadic arguments)) None
+      ap (λ n. if counts_for parameters variadic n then Some (filled_up parameters variadic (map all arguments)) else None) (length-map arguments all)
+      ∙ ap (λ xs. if counts_for parameters variadic (length arguments) then Some xs else None) (filled_up-moved parameters variadic arguments)
+      ∙ carried-if (option_map (map all)) (counts_for parameters variadic (length arguments)) (Some (filled_up parameters variadic arguments)) None
 
   arguments_for-moved : (parameters : List (List ℕ)) (variadic : Bool) (arguments : List (List (Hidden P)))
       → arguments_for parameters variadic (map all arguments) ≡ option_map (map all) (arguments_for parameters variadic arguments)
   arguments_for-moved parameters variadic arguments =
-      ap (λ xs. if counts (function_like parameters variadic) (length xs) then Some (filled_up parameters variadic xs) else None) (given-moved parameters variadic arguments)
+      ap (λ xs. if counts_for parameters variadic (length xs) then Some (filled_up parameters variadic xs) else None) (given-moved parameters variadic arguments)
       ∙ fitting-moved parameters variadic (given parameters variadic arguments)
 
   fitted-moved : (d : Definition) (close : Hidden P) (rest : List (Hidden P)) (o : Option (List (List (Hidden P))))
@@ -271,8 +293,8 @@ module _ {P Q : Type 0} (f : P → Q) where
   form_case-moved d (function_like parameters variadic) (t ∷ ts) =
       let opens = same_bytes t.spelling (codes "(") in
       let here = call_of (length parameters) zero ts in
-      ap (λ k. if opens then k else stays) (ap (call_case d parameters variadic) (call_of-moved (length parameters) zero ts) ∙ call_case-moved d parameters variadic here)
-      ∙ carried-if moved_case opens (call_case d parameters variadic here) stays
+      ap (λ k. if opens then k else stays) (ap (call_case d parameters (is_some variadic)) (call_of-moved (length parameters) zero ts) ∙ call_case-moved d parameters (is_some variadic) here)
+      ∙ carried-if moved_case opens (call_case d parameters (is_some variadic) here) stays
 
   defined_case-moved : (o : Option Definition) (rest : List (Hidden P)) → defined_case o (all rest) ≡ moved_case (defined_case o rest)
   defined_case-moved None rest = refl
@@ -345,9 +367,8 @@ module _ {P Q : Type 0} (f : P → Q) where
 
       substituted-moved : (form : Form) (items : List Item) → substituted two form items (moved f head) (map all raw) (map all expanded) names ≡ moved_answer f (substituted one form items head raw expanded names)
       substituted-moved form items =
-          let ps = parts form neither items in
-          ap (result_and_then (put_together two (moved f head) (map all raw) (map all expanded) names)) (slots-moved head raw ps)
-          ∙ carried-then (map moved_slot) all (moved_failure f) (put_together one head raw expanded names) (put_together two (moved f head) (map all raw) (map all expanded) names) put-moved (slots head raw ps)
+          ap (result_and_then (put_together two (moved f head) (map all raw) (map all expanded) names)) (list_slots-moved head raw form items)
+          ∙ carried-then (map moved_slot) all (moved_failure f) (put_together one head raw expanded names) (put_together two (moved f head) (map all raw) (map all expanded) names) put-moved (list_slots head raw form items)
           ∙ moved-carried (substituted one form items head raw expanded names)
 
     pub object_result-moved : (d : Definition) (t : Hidden P) → object_result two d (moved f t) ≡ moved_answer f (object_result one d t)
@@ -365,12 +386,11 @@ module _ {P Q : Type 0} (f : P → Q) where
     asked-moved : (d : Definition) (t : Hidden P) (arguments : List (List (Hidden P))) → asked two d (moved f t) (map all arguments) ≡ map moved_ask (asked one d t arguments)
     asked-moved d t arguments =
         let list = list_of one d t in
-        let ps = parts d.form neither list in
         let ask : List Item → Bool → List (ℕ × List (Hidden Q)) = λ items b. if b then map (λ n. (n, argument (map all arguments) n)) (wanted_of d.form items) else [] in
-        ap (λ items. ask items (is_ok (slots (moved f t) (map all arguments) (parts d.form neither items)))) (list_of-moved d t)
-        ∙ ap (ask list) (ap is_ok (slots-moved t arguments ps) ∙ carried-ok (map moved_slot) (moved_failure f) (slots t arguments ps))
-        ∙ ap (λ asks. if is_ok (slots t arguments ps) then asks else []) (asks-moved arguments (wanted_of d.form list))
-        ∙ carried-if (map moved_ask) (is_ok (slots t arguments ps)) (map (λ n. (n, argument arguments n)) (wanted_of d.form list)) []
+        ap (λ items. ask items (is_ok (list_slots (moved f t) (map all arguments) d.form items))) (list_of-moved d t)
+        ∙ ap (ask list) (ap is_ok (list_slots-moved t arguments d.form list) ∙ carried-ok (map moved_slot) (moved_failure f) (list_slots t arguments d.form list))
+        ∙ ap (λ asks. if is_ok (list_slots t arguments d.form list) then asks else []) (asks-moved arguments (wanted_of d.form list))
+        ∙ carried-if (map moved_ask) (is_ok (list_slots t arguments d.form list)) (map (λ n. (n, argument arguments n)) (wanted_of d.form list)) []
 
     module _ (macros : Macros) where
       -- the arguments that are asked for

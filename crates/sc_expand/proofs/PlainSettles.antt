@@ -4,7 +4,7 @@ use Rattle.std.proofs.Common.{◌≡◌, List, [], ◌∷◌, ◌++◌, append-n
 use Rattle.c11_macros.specs.Hidden.{Failure, Hidden, Provenance}
 use Rattle.c11_macros.specs.Macros.{Macros}
 use Rattle.c11_macros.specs.Runs.{Passes, begins, goes_on, Runs, Settles, Uses, whole, open_end, IsHeld, held, fails, over, waits}
-use Rattle.sc_expand.proofs.NameRuns.{IsInFront, NameReaches, fails-runs, name-move, name-over, name-start, name-waits}
+use Rattle.sc_expand.proofs.NameRuns.{IsInFront, NameReaches, fails-runs, name-move, name-over, name-start, name-waits, tail-is}
 use Rattle.sc_expand.specs.Open.{LeadsOn, Waits, alone, no_step, open_call, step}
 use Rattle.sc_expand.specs.Plain as plain
 use Rattle.sc_expand.specs.Plain.{Fails, Moves, State, expanding, scanning, waiting}
@@ -26,7 +26,7 @@ module _ {P : Type 0} (provenance : Provenance P) (macros : Macros) where
 
   -- ---- something is left
 
-  no-moves : {s t : State P} → Moves provenance macros s t → (out : List (Hidden P)) → s ≡ scanning out [] → ⊥
+  pub no-moves : {s t : State P} → Moves provenance macros s t → (out : List (Hidden P)) → s ≡ scanning out [] → ⊥
   no-moves (plain.stay _ rest t is) out e = cc
   no-moves (plain.object _ rest body t d is made) out e = cc
   no-moves (plain.gather _ rest after t close d arguments template is stands) out e = cc
@@ -35,7 +35,7 @@ module _ {P : Type 0} (provenance : Provenance P) (macros : Macros) where
   no-moves (plain.replace _ work body w all made) out e = cc
   no-moves (plain.inside _ work w n m) out e = cc
 
-  no-fails : {s : State P} {failure : Failure P} → Fails provenance macros s failure → (out : List (Hidden P)) → s ≡ scanning out [] → ⊥
+  pub no-fails : {s : State P} {failure : Failure P} → Fails provenance macros s failure → (out : List (Hidden P)) → s ≡ scanning out [] → ⊥
   no-fails (plain.bad_object _ rest t d failure is made) out e = cc
   no-fails (plain.open_call _ rest t is) out e = cc
   no-fails (plain.miscounted _ rest after t is) out e = cc
@@ -125,11 +125,27 @@ module _ {P : Type 0} (provenance : Provenance P) (macros : Macros) where
     pub uses : Uses P
     pub runs : Runs provenance macros (x.name ∷ []) x.behind done (waits name rest) uses
     pub is : out ≡ x.out ++ done
+    -- what it has left was made, and is then the list's
+    pub made : List (Hidden P)
+    pub front : x.reaches.front ≡ name ∷ made
+    pub stands : rest ≡ made ++ x.left
+    pub takes : uses.taken ≡ x.reaches.taken
 
   abbrev waited-at : {source : List (Hidden P)} (out rest : List (Hidden P)) (g : Hidden P) (x : InName source (scanning out (g ∷ rest))) → Waits macros (scanning out (g ∷ rest)) → HasWaited x out
   waited-at out rest g x w =
       let n = name-waits provenance macros x.name g x.behind x.out out rest x.left x.reaches x.some w in
-      record { done = n.later; name = g; rest = rest; uses = n.uses; runs = n.runs; is = sym (append-nil out) ∙ n.done_is }
+      let f = tail-is provenance macros g rest x.reaches.front x.left x.reaches.bottom_is x.some in record {
+        done = n.later;
+        name = g;
+        rest = rest;
+        uses = n.uses;
+        runs = n.runs;
+        is = sym (append-nil out) ∙ n.done_is;
+        made = f.0;
+        front = f.2;
+        stands = f.1;
+        takes = n.taken_is ∙ append-nil x.reaches.taken;
+      }
 
   pub has-waited : {source : List (Hidden P)} {s : State P} (x : InName source s) → Waits macros s → (out : List (Hidden P)) → ((o w : List (Hidden P)) → s ≡ scanning o w → o ≡ out) → HasWaited x out
   has-waited x (alone o rest t is) out told = subst (HasWaited x) (told o (t ∷ rest) refl) (waited-at o rest t x (alone o rest t is))

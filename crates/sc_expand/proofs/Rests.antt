@@ -9,6 +9,7 @@ use Rattle.sc_base.specs.declared.place.Place.{Place}
 use Rattle.sc_expand.proofs.AlikeLemmas.{All-at, All-but-tail, IsAlikeExpansion-Keeps, enclosing-last, enclosing-others}
 use Rattle.sc_expand.proofs.BottomLemmas.{behind-Keeps, behind-other, bottom-held, bottom-less, bottom-same}
 use Rattle.sc_expand.proofs.MachineCalls.{calls_at-append, leave-other}
+use Rattle.sc_expand.proofs.KeptLemmas.{gone-first, gone-nothing, gone-then}
 use Rattle.sc_expand.proofs.MachineLemmas.{Stands-Grows, state_in-Grows}
 use Rattle.sc_expand.proofs.SeenLemmas.{AreHeld-tail, Grows-refl, Grows-trans, IsHeldExpansion-Grows, at-Grows}
 use Rattle.sc_expand.proofs.UnchangedLemmas.{drops-first, drops-nothing, drops-then, never-empty, not-both}
@@ -113,6 +114,7 @@ module _ {old new : Stores} (grows : Grows old new) (e : Expansion) where
           sym (ap (λ v. state_in new e.below.items v c) view ∙ state_in-Grows grows files c listed e.below.items (view_at old e.top c) held.below),
         ));
     left = λ files held. same-left grows e e held refl refl refl;
+    keeps = λ files held. gone-nothing new.sets e e refl refl;
     alike_left = λ files c d held p q alike all. rest-alike e grows held refl p q all;
     drops = λ files held uncalled. drops-nothing old.sets e uncalled;
     alike = λ files c d others held p q alike. IsAlikeExpansion-Keeps grows.sets p q others e held alike;
@@ -169,6 +171,7 @@ module _ (st : Stores) (e after : Expansion) (refusals : after.refusals ≡ e.re
         λ i. record { out = first i; work = fewer i; calls = third i }));
     alike_left = λ files c d held p q alike all. dropped-alike st e after held below kept_first p q alike all;
     left = λ files held. dropped-left st (Keeps-refl st.sets) e after held refusals below out (ap (drop 1) (sym work)) kept_first;
+    keeps = λ files held. gone-first st.sets e after item work below kept_first;
     drops = λ files held uncalled. drops-first st.sets e after item never work calls out below uncalled;
     alike = λ files c d others held p q alike.
         let here = others_at others (length e.below.items) in
@@ -215,6 +218,7 @@ module _ (st : Stores) (e after : Expansion) (refusals : after.refusals ≡ e.re
     alike_left = λ files c d held p q alike all. rest-alike after (Grows-refl st) held rest p q all;
     left = λ files held. same-left (Grows-refl st) e after held rest (ap (λ b. (bottom_by b.items after.top).work) below ∙ bottom-same e.below.items after.top e.top work)
         (ap (λ b. put_by b.items after.top) below ∙ put-same e.below.items after.top e.top out);
+    keeps = λ files held. gone-nothing st.sets e after (ap (λ b. (bottom_by b.items after.top).work) below ∙ bottom-same e.below.items after.top e.top work) rest;
     drops = λ files held uncalled. absurd (never-empty after.top.calls.items k (sym calls ∙ uncalled.calls));
     alike = λ files c d others held p q alike.
         let here = others_at others (length e.below.items) in
@@ -254,6 +258,9 @@ module _ (st : Stores) (e after : Expansion) (refusals : after.refusals ≡ e.re
     left = λ files held. same-left (Grows-refl st) e after held rest
         (ap (λ t. (bottom_by after.below.items t).work) top ∙ (sym (ap (λ f. f.work) (bottom-less after.below.items o e.top)) ∙ sym (ap (λ bs. (bottom_by bs e.top).work) below)))
         (ap (λ t. put_by after.below.items t) top ∙ (sym (put-less after.below.items o e.top) ∙ sym (ap (λ bs. put_by bs e.top) below)));
+    keeps = λ files held.
+        gone-nothing st.sets e after
+        (ap (λ t. (bottom_by after.below.items t).work) top ∙ (sym (ap (λ f. f.work) (bottom-less after.below.items o e.top)) ∙ sym (ap (λ bs. (bottom_by bs e.top).work) below))) rest;
     drops = λ files held uncalled. absurd (never-empty after.below.items o (sym below ∙ uncalled.below));
     alike = λ files c d others held p q alike.
         let last = enclosing-last {others = others} e after.below.items o below alike in
@@ -285,6 +292,7 @@ rested-then {old} {mid} {new} {one} {two} {three} a b = record {
       progress-then false false refl (a.progress files provenance macros c held listed) (b.progress files provenance macros c (a.held files held) (IsConfig-Keeps a.grows.sets listed));
   alike_left = λ files c d held p q alike all. b.alike_left files c d (a.held files held) (IsConfig-Keeps a.grows.sets p) (IsConfig-Keeps a.grows.sets q) (a.alike files c d no_others held p q alike) (a.alike_left files c d held p q alike all);
   left = λ files held. left-then one two three a.grows b.grows held (a.held files held) a.refusals b.refusals (a.left files held) (b.left files (a.held files held));
+  keeps = λ files held. gone-then one two three a.grows b.grows.sets held a.refusals (a.keeps files held) (b.keeps files (a.held files held));
   drops = λ files held uncalled.
       let first = a.drops files held uncalled in
       drops-then old.sets mid.sets one two three a.grows.sets held.refusals.live held.top.work.own a.refusals first (b.drops files (a.held files held) first.uncalled);

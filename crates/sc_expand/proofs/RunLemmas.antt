@@ -1,6 +1,7 @@
 -- What holds at each turn of the loop, from the first to the last.
-use Rattle.std.proofs.Common.{◌≡◌, ◌⊎◌, inl, inr, ℕ, ◌<◌, ◌≤◌, Bool, true, false, true≢false, List, [], ◌∷◌, ◌++◌, append-nil, length, refl, sym, ap, subst, ◌∙◌, arith, if◌then◌else◌}
+use Rattle.std.proofs.Common.{◌≡◌, ◌⊎◌, inl, inr, ℕ, ◌<◌, ◌≤◌, Bool, true, false, true≢false, List, [], ◌∷◌, ◌++◌, All, append-nil, length, refl, sym, ap, subst, ◌∙◌, arith, if◌then◌else◌}
 use Rattle.std.proofs.lemmas.Bool.{cases_lt}
+use Rattle.std.proofs.lemmas.List.Elements.{All-nil}
 use Rattle.c11_macros.specs.Expansion.{IsWithin}
 use Rattle.c11_macros.specs.Hidden as model
 use Rattle.c11_macros.specs.Hidden.{Provenance}
@@ -27,7 +28,7 @@ use Rattle.sc_expand.specs.Turn as turn
 use Rattle.sc_expand.specs.Turn.{At, End, Ends, no_end, with_end}
 use Rattle.sc_model.proofs.SetLemmas.{IsConfig-Keeps, IsConfig-kept}
 use Rattle.sc_expand.specs.Unchanged.{IsRestricted, LooksUpNone, Passes}
-use Rattle.sc_model.specs.Sets.{IsConfig}
+use Rattle.sc_model.specs.Sets.{IsConfig, IsNever}
 use Rattle.sc_subst.specs.declared.hidden.Hidden.{Hidden}
 
 -- what holds of an expansion that began so, at each configuration
@@ -36,6 +37,7 @@ pub record IsRunning (files : List (List ℕ)) (macros : List ℕ → Macros) (o
   pub told : (c : List ℕ) → IsConfig old.sets.arities c
       → IsTold (provenance_of files) (macros c) (seen_at old was.top.work c) (seen_at now (put_out e) c) (left_at now e c) now c e.below.items (at now e c) (old.sets.has was.refusals.live.0 c)
   pub rest : (c : List ℕ) → IsConfig old.sets.arities c → now.sets.has e.refusals.waiting.0 c ≡ false → seen_at now e.rest c ≡ []
+  pub some : All (λ item. IsNever now.sets item.0.0 → ⊥) e.rest
   pub out : PutsOut old now was.refusals.live.0 was.top.out (put_out e)
   pub passes : LooksUpNone old.sets old.names macros was → Passes now.sets was e
 
@@ -69,6 +71,7 @@ module _ (files : List (List ℕ)) (macros : List ℕ → Macros) (old : Stores)
     held = held;
     told = λ c listed. told_at c listed (old.sets.has was.refusals.live.0 c) refl;
     rest = λ c listed none. ap (λ l. seen_at old l c) fresh.rest;
+    some = let Some : Cond × Hidden → Type 0 = λ item. IsNever old.sets item.0.0 → ⊥ in subst (All Some) (sym fresh.rest) (All-nil Some);
     out = subst (PutsOut old old was.refusals.live.0 was.top.out) (sym (ap (λ bs. put_by bs was.top) fresh.below)) (puts-nothing (Grows-refl old) was.refusals.live.0 was.top.out held.top.out);
     passes = λ none. passes-nothing old.sets was (record { below = fresh.below; calls = fresh.calls });
   }
@@ -190,7 +193,7 @@ module _ {files : List (List ℕ)} {macros : List ℕ → Macros} {old now : Sto
     }
 
     pub running-later : IsHeldExpansion new (length files) after → PutsOut now new e.refusals.live.0 (put_out e) (put_out after) → (LooksUpNone old.sets old.names macros was → Passes new.sets was after) → KeepsLeft now new e after → IsRunning files macros old new was after
-    running-later held out passes left = record { held = held; told = told-later left; rest = rest-later left; out = puts-then grows running-fewer r.out out; passes = passes }
+    running-later held out passes left = record { held = held; told = told-later left; rest = rest-later left; some = left.some r.some; out = puts-then grows running-fewer r.out out; passes = passes }
 
     module _ (names : List (List ℕ)) (within : (c : List ℕ) → IsWithin names (macros c)) where
       pub running-le : steps_in old.sets.arities files macros names within new after ≤ steps_in old.sets.arities files macros names within now e

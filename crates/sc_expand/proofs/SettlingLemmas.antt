@@ -17,7 +17,7 @@ use Rattle.sc_expand.specs.Machine.{IsHeldExpansion}
 use Rattle.sc_expand.specs.Running.{IsDone, IsUntouched, PutsOut}
 use Rattle.sc_expand.specs.Seen.{AreHeld, IsHeldCall, IsHeldEnclosing, Stores, failures_at, provenance_of, seen_at}
 use Rattle.sc_expand.specs.Settling.{IsHeldSettled, IsSettled}
-use Rattle.sc_expand.specs.Spans.{InSegments}
+use Rattle.sc_expand.specs.Spans.{Becomes}
 use Rattle.sc_guarded.specs.Items.{items_at}
 use Rattle.sc_hoist.specs.Alike.{AreAlike, AreAlikeFaults, IsAlike}
 use Rattle.sc_model.specs.Sets.{IsCond, IsConfig, IsNever}
@@ -61,7 +61,7 @@ module _ (old : Stores) (e : Expansion) (list : List (Cond × Hidden)) (live : C
   module _ (new : Stores) (after : Expansion) (s : Settled) (done_is : s.done ≡ map bared after.top.out) (rest_is : s.rest ≡ after.rest) (held_is : s.held ≡ after.refusals.faults) where
     pub settled-is : (files : List (List ℕ)) (macros : List ℕ → Macros) → PutsOut old new e.refusals.live.0 e.top.out after.top.out
         → ((c : List ℕ) → IsConfig old.sets.arities c → IsDone (provenance_of files) (macros c) (seen_at old e.top.work c) (seen_at new after.top.out c) (seen_at new after.rest c) (failures_at new.sets after.refusals.faults.items c) (old.sets.has e.refusals.live.0 c))
-        → InSegments (seen_hidden old.names old.hides) (provenance_of files) macros old.sets e.top.work e.refusals.live.0 new.sets (seen_hidden new.names new.hides) (length e.top.work) after.top.out
+        → Becomes (seen_hidden old.names old.hides) (provenance_of files) macros old.sets e.top.work e.refusals.live.0 new.sets (seen_hidden new.names new.hides) after.top.out after.rest
         → IsSettled old new files macros list live.0 s
     settled-is files macros puts is segments = record {
       out = after.top.out;
@@ -73,8 +73,8 @@ module _ (old : Stores) (e : Expansion) (list : List (Cond × Hidden)) (live : C
           none-found (seen_hidden new.names new.hides) (items_at new.sets after.top.out c)
           (puts.apart c listed (ap (λ (k : Cond). old.sets.has k.0 c) live_is ∙ lacks) ∙ ap (λ l. seen_at old l c) fresh.out);
       segments =
-          subst (λ (z : List (Cond × Hidden) × Cond). InSegments (seen_hidden old.names old.hides) (provenance_of files) macros old.sets z.0 z.1.0 new.sets (seen_hidden new.names new.hides) (length z.0) after.top.out)
-          (λ i. (work i, live_is i)) segments;
+          subst (λ (z : List (Cond × Hidden) × Cond × List (Cond × Hidden)). Becomes (seen_hidden old.names old.hides) (provenance_of files) macros old.sets z.0 z.1.0 new.sets (seen_hidden new.names new.hides) after.top.out z.2)
+          (λ i. (work i, live_is i, sym rest_is i)) segments;
     }
 
     pub settled-held : (files : ℕ) → IsHeldExpansion new files after → PutsOut old new e.refusals.live.0 e.top.out after.top.out → IsHeldSettled new files s

@@ -134,7 +134,7 @@ module _ (s : Sets) (c d : List ℕ) where
         let it = closed-front (length (items_at s (take n items) c)) (spelled_at s names (tokens_in items) c) (spelled_at s names (tokens_in items) d) (spelled-front n _ items rest (omega arith)) is early in
         record {
           ends = is ∙ sym it.0;
-          places =
+          places = λ closes.
               ap (λ (l : List ℕ). 0 ∷ l) (places-front n (call_length (spelled_at s names (tokens_in items) c)) 1 items rest early)
               ∙ ap (λ (k : ℕ). 0 ∷ take k (places_from s 1 (map (λ (x : Cond × Token). x.0) (tokens_in items)) d)) (sym it.1);
         }
@@ -151,7 +151,7 @@ module _ (s : Sets) (c d : List ℕ) where
       spelled-split s names e n items ∙ ap (λ (l : List Hidden). map (spell names) l ++ spelled_at s names (tokens_in (drop n items)) e) is,
     )
 
-    behind-alike : (span : ℕ) (list : List (Cond × Hidden)) → AreAlike s c d (take span list) → items_at s (drop 1 (take span list)) c ≡ items_at s (drop 1 (take span list)) d
+    pub behind-alike : (span : ℕ) (list : List (Cond × Hidden)) → AreAlike s c d (take span list) → items_at s (drop 1 (take span list)) c ≡ items_at s (drop 1 (take span list)) d
     behind-alike span list alike = items_at-alike s c d (drop 1 (take span list)) (All-drop (λ (x : Cond × Hidden). IsAlike s c d x.0) 1 (take span list) alike)
 
     -- another token of the span follows the name
@@ -160,7 +160,7 @@ module _ (s : Sets) (c d : List ℕ) where
     span-bare span list x rest alike is differs =
         let one = ends c (first-of c span list x rest is) in
         let two = ends d (first-of d span list x rest (sym (behind-alike span list alike) ∙ is)) in
-        (record { ends = one.0 ∙ sym two.0; places = places c one.1 ∙ sym (places d two.1) }, one.0)
+        (record { ends = one.0 ∙ sym two.0; places = λ closes. places c one.1 ∙ sym (places d two.1) }, one.0)
       where
         ends : (e : List ℕ) → First e list x → (call_end_at s names (tokens_in list) 0 e ≡ bare) × (call_length (spelled_at s names (drop 1 (tokens_in list)) e) ≡ 0)
         ends e it = (

@@ -1,17 +1,18 @@
 -- What holds of all tokens that a substitution makes, where it holds of the tokens of the list and
 -- of the arguments, and lasts as tokens are made into string literals, pasted and hidden.
-use Rattle.std.proofs.Common.{ℕ, zero, suc, ◌&&◌, ◌||◌, not, Bool, true, false, List, [], ◌∷◌, ◌++◌, IfOk, get_or, Option, Some, None, Result, Ok, Err, if◌then◌else◌}
+use Rattle.std.proofs.Common.{ℕ, zero, suc, ◌&&◌, ◌||◌, not, Bool, true, false, List, [], ◌∷◌, ◌++◌, IfOk, get_or, Option, Some, None, Result, Ok, Err, if◌then◌else◌, codes, cond}
 use Rattle.std.specs.List.{AllByRecursion as Every}
 use Rattle.c11_macros.proofs.OneLineLists.{both, every-map}
 use Rattle.c11_macros.specs.Hidden.{Failure, Hidden, HideSet, Provenance, failure_at, meet, no_names}
 use Rattle.c11_macros.specs.Macros.{Form}
 use Rattle.c11_macros.specs.Results.{result_and_then, result_map}
 use Rattle.c11_macros.specs.Substitution as substitution
-use Rattle.c11_macros.specs.Substitution.{Before, Part, Piece, Slot, after_hash, after_paste, all_glued, argument, argument_pieces, begins_paste, begins_with_parameter, filled, filled_by, for_parameter, for_paste, glued, hidden_by, hiding, is_after_paste, is_hash, is_paste, is_text_kind, joined, listed, neither, operand_part, operator, or_placemarker, parameter_of, parts, pasted_as, piece, pieces_of, placemarker, put_together, slot_of, slots, spellings, stringized, substituted, tokens_of, with_space}
+use Rattle.c11_macros.specs.Substitution.{Before, Joint, Part, Piece, Slot, after_hash, after_paste, all_glued, apart, argument, argument_pieces, begins_paste, begins_with_parameter, behind_comma, behind_paste, comma_of, deleting_rest, filled, filled_by, first_part, for_parameter, for_paste, glued, hidden_by, hiding, is_after_paste, is_deleted, is_hash, is_paste, is_rest_next, is_text_kind, joined, joint_of, kept, list_slots, listed, neither, operand_part, operator, or_placemarker, parameter_of, parts, parts_of, pasted_as, piece, pieces_of, placemarker, put_together, slot_of, slots, spellings, stringized, substituted, tokens_of, with_commas, with_space}
 use Rattle.c11_tokens.specs.Relex.{relexed}
 use Rattle.sc_model.specs.declared.cause.Cause.TheVariants.{BadStringize}
 use Rattle.sc_model.specs.declared.kind.Kind.{Kind}
 use Rattle.sc_model.specs.declared.kind.Kind.TheVariants.{Text}
+use Rattle.sc_model.specs.Bytes.{same_bytes}
 use Rattle.sc_model.specs.Token.{Item}
 
 -- ---- steps of which each may fail, lists
@@ -47,6 +48,7 @@ module _ {P : Type 0} (provenance : Provenance P) (T : Hidden P → Type 0) (I :
   PartOf (substitution.literal n space) = Unit {0}
   PartOf (substitution.parameter n space) = Unit {0}
   PartOf substitution.paste = Unit {0}
+  PartOf (substitution.comma item n) = I item
 
   operand-of : (before : Before) (item : Item) (o : Option ℕ) → I item → PartOf (operand_part before item o)
   operand-of before item None h = h
@@ -63,6 +65,34 @@ module _ {P : Type 0} (provenance : Provenance P) (T : Hidden P → Type 0) (I :
       (tt, parts-of form after_paste list h.1)
       (both (Every PartOf) (is_hash item && begins_with_parameter form list) literal operand (parts-of form (after_hash item.space) list h.1)
       (operand-of before item (parameter_of form item.spelling) h.0, parts-of form neither list h.1))
+
+  -- a part, or the comma that it is
+  first-of : (rest : Option ℕ) (before : Joint) (p : Part) (ps others behind : List Part) → PartOf p → Every PartOf others → Every PartOf behind
+      → Every PartOf (first_part (comma_of rest before p ps) p others behind)
+  first-of None before p ps others behind h k m = (h, k)
+  first-of (Some n) apart (substitution.token item) ps others behind h k m =
+      both (λ o. Every PartOf (first_part o (substitution.token item) others behind)) (same_bytes item.spelling (codes ",") && is_rest_next n ps) (Some (substitution.comma item n)) None (h, m) (h, k)
+  first-of (Some n) apart (substitution.literal m space) ps others behind h k l = (h, k)
+  first-of (Some n) apart (substitution.parameter m space) ps others behind h k l = (h, k)
+  first-of (Some n) apart substitution.paste ps others behind h k l = (h, k)
+  first-of (Some n) apart (substitution.comma item m) ps others behind h k l = (h, k)
+  first-of (Some n) behind_paste p ps others behind h k m = (h, k)
+  first-of (Some n) behind_comma p ps others behind h k m = (h, k)
+
+  commas-of : (rest : Option ℕ) (before : Joint) (ps : List Part) → Every PartOf ps → Every PartOf (with_commas rest before ps)
+  commas-of rest before [] h = tt
+  commas-of rest apart (p ∷ ps) h = first-of rest apart p ps (with_commas rest (joint_of p) ps) (with_commas rest behind_comma ps) h.0 (commas-of rest (joint_of p) ps h.1) (commas-of rest behind_comma ps h.1)
+  commas-of rest behind_paste (p ∷ ps) h =
+      first-of rest behind_paste p ps (with_commas rest (joint_of p) ps) (with_commas rest behind_comma ps) h.0 (commas-of rest (joint_of p) ps h.1) (commas-of rest behind_comma ps h.1)
+  commas-of rest behind_comma (p ∷ ps) h = commas-of rest apart ps h.1
+
+  kept-of : (raw : List (List (Hidden P))) (ps : List Part) → Every PartOf ps → Every PartOf (kept raw ps)
+  kept-of raw [] h = tt
+  kept-of raw (p ∷ ps) h = by (is_deleted raw p) (kept-of raw ps h.1)
+    where
+      by : (b : Bool) → Every PartOf (kept raw ps) → Every PartOf (cond (not b) (p ∷ kept raw ps) (kept raw ps))
+      by true rest = rest
+      by false rest = (h.0, rest)
 
   abbrev SlotOf : Slot P → Type 0
   SlotOf (filled_by t) = T t
@@ -131,6 +161,7 @@ module _ {P : Type 0} (provenance : Provenance P) (T : Hidden P → Type 0) (I :
           (both (λ (r : Result (Hidden P) (Failure P)). IfOk r T) (is_text_kind (relexed text.spelling)) (Ok text) (Err (failure_at BadStringize head)) (lasts.of_literal space ts (argument-of raw n each_raw)) tt)
       slot-of (substitution.parameter n space) h = tt
       slot-of substitution.paste h = tt
+      slot-of (substitution.comma item n) h = lasts.of_item item h
 
       slots-of : (ps : List Part) → Every PartOf ps → IfOk (slots head raw ps) (Every SlotOf)
       slots-of [] h = tt
@@ -157,4 +188,4 @@ module _ {P : Type 0} (provenance : Provenance P) (T : Hidden P → Type 0) (I :
           ok-map (Every PieceOf) (Every T) (λ pieces. hiding provenance names (with_space head.space (tokens_of pieces)))
           (λ pieces k. every-map T T (hidden_by provenance names) (lasts.of_hide names) (with_space head.space (tokens_of pieces)) (with_space-of head.space (tokens_of pieces) (tokens-of pieces k)))
           (all_glued head (filled raw expanded false ss)) (all_glued-of (filled raw expanded false ss) (filled-of false ss own)))
-          (slots head raw (parts form neither list)) (slots-of (parts form neither list) (parts-of form neither list h))
+          (list_slots head raw form list) (slots-of (kept raw (parts_of form list)) (kept-of raw (parts_of form list) (commas-of (deleting_rest form) apart (parts form neither list) (parts-of form neither list h))))

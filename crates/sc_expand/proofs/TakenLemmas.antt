@@ -1,11 +1,13 @@
 -- What a configuration still has of a list, and what was made of its first token.
-use Rattle.std.proofs.Common.{◌≡◌, ◌⊎◌, ◌∙◌, ℕ, zero, suc, ◌+◌, ◌≤◌, ◌++◌, Bool, true, false, List, [], ◌∷◌, All, drop, take, length, length-append, inl, inr, refl, ap, arith, if◌then◌else◌}
+use Rattle.std.proofs.Common.{◌≡◌, ◌⊎◌, ◌∙◌, ℕ, zero, suc, ◌+◌, ◌≤◌, ◌++◌, Bool, true, false, true≢false, List, [], ◌∷◌, All, drop, take, length, length-append, inl, inr, refl, sym, ap, subst, arith, if◌then◌else◌}
 use Rattle.std.proofs.lemmas.List.{drop-drop, length-drop}
-use Rattle.std.proofs.lemmas.List.Elements.{All-cons, All-nil, All-tail}
+use Rattle.std.proofs.lemmas.List.Elements.{All-cons, All-head, All-nil, All-tail}
 use Rattle.sc_base.specs.declared.id.Cond.{Cond}
+use Rattle.sc_expand.proofs.Behind.{Fall, behind-falls, length-behind}
 use Rattle.sc_expand.proofs.LastLemmas.{behind-drop, behind-each, first-long, last-each, last-earlier, last-later}
+use Rattle.sc_expand.proofs.PhaseLists.{first-had}
 use Rattle.sc_expand.specs.Having.{HasLast, behind_at, has_each}
-use Rattle.sc_expand.specs.Taking.{HasTaken}
+use Rattle.sc_expand.specs.Taking.{HasTaken, has_first}
 use Rattle.sc_guarded.specs.Items.{items_at}
 use Rattle.sc_model.specs.Sets.{Sets}
 use Rattle.sc_subst.specs.declared.hidden.Hidden.{Hidden}
@@ -113,3 +115,31 @@ module _ {old new : Sets} {before now made : List (Cond × Hidden)} {c : List �
 -- at most one token is gone
 pub long-put : (before now made : List (Cond × Hidden)) → length now ≡ length before → length before ≤ suc (length (made ++ drop 1 now))
 long-put before now made long = omega (arith, long, length-append made (drop 1 now), length-drop 1 now)
+
+-- who has as many items as before of a list that is as long has the first still
+pub first-still : {old new : Sets} {before after : List (Cond × Hidden)} {c : List ℕ} → HasLast old new before after c → length after ≡ length before → length (items_at new after c) ≡ length (items_at old before c)
+    → has_first old before c ≡ true → has_first new after c ≡ true
+first-still {old} {new} {before} {after} {c} last long count has = from last.made refl
+  where
+    was : List ℕ
+    was = behind_at old before c
+
+    had : (m : ℕ) (ms : List ℕ) → length after ≡ suc m → behind_at new after c ≡ m ∷ ms → has_first new after c ≡ true
+    had m ms many is = let it = first-had new c m ms after many is in ap (λ (l : List (Cond × Hidden)). has_first new l c) it.2 ∙ it.3
+
+    all : (list : List (Cond × Hidden)) → before ≡ list → has_first old list c ≡ true → last.made ≡ [] → has_first new after c ≡ true
+    all [] same first none = absurd (true≢false (sym first))
+    all (x ∷ xs) same first none =
+        let mine : was ≡ length xs ∷ behind_at old xs c = ap (λ (l : List (Cond × Hidden)). behind_at old l c) same ∙ ap (λ (b : Bool). if b then length xs ∷ behind_at old xs c else behind_at old xs c) first in
+        let left : behind_at new after c ≡ drop last.gone was = last.is ∙ ap (λ l. l ++ drop last.gone was) none in
+        let gone : last.gone ≡ 0 = omega (arith, ap length left, length-drop last.gone was, ap length mine, count, length-behind new c after, length-behind old c before) in
+        had (length xs) (behind_at old xs c) (long ∙ ap length same) (left ∙ (ap (λ (k : ℕ). drop k was) gone ∙ mine))
+
+    from : (made : List ℕ) → last.made ≡ made → has_first new after c ≡ true
+    from [] is = all before refl has is
+    from (m ∷ ms) is =
+        let High : ℕ → Type 0 = λ n. length before ≤ suc n in
+        let high : length before ≤ suc m = All-head High m ms (subst (All High) is last.high) in
+        let at : behind_at new after c ≡ m ∷ (ms ++ drop last.gone was) = last.is ∙ ap (λ l. l ++ drop last.gone was) is in
+        let falls : Fall (length after) (m ∷ (ms ++ drop last.gone was)) = subst (Fall (length after)) at (behind-falls new c after) in
+        had m (ms ++ drop last.gone was) (omega (arith, high, falls.0, long)) at

@@ -1,6 +1,7 @@
 -- A turn that takes the first token of a list, by what taking the token comes to.
-use Rattle.std.proofs.Common.{◌≡◌, ◌∙◌, ◌∷◌, ◌++◌, ◌&&◌, ℕ, Bool, true, false, List, [], All, Some, ap, refl, sym, subst, length, drop, map, append-nil, true≢false, if◌then◌else◌}
+use Rattle.std.proofs.Common.{◌≡◌, ◌∙◌, ◌∷◌, ◌++◌, ◌&&◌, ℕ, Bool, true, false, List, [], All, Some, ap, refl, sym, subst, length, drop, map, append-nil, arith, true≢false, if◌then◌else◌}
 use Rattle.std.proofs.lemmas.Bool.{and_parts, and_right}
+use Rattle.std.proofs.lemmas.List.{length-map}
 use Rattle.std.proofs.lemmas.List.Elements.{All-drop, All-head}
 use Rattle.std.specs.Prelude.{slice_get}
 use Rattle.c11_macros.specs.Hidden.{Hidden, Provenance}
@@ -8,10 +9,13 @@ use Rattle.c11_macros.specs.Macros.{Macros}
 use Rattle.sc_base.proofs.Growth.{Extends-refl}
 use Rattle.sc_base.specs.declared.id.Cond.{Cond}
 use Rattle.sc_base.specs.declared.place.Place.{Place}
+use Rattle.sc_expand.proofs.LastLemmas.{last-earlier}
 use Rattle.sc_expand.proofs.PuttingOut.{pushed-held, pushed-seen}
 use Rattle.sc_expand.proofs.Rests.{first-is}
 use Rattle.sc_expand.proofs.SeenLemmas.{AreHeld-append, at-Grows, macros_at-Grows, seen_at-Grows, seen_at-append, seen_hidden-Grows, token-Grows}
 use Rattle.sc_expand.proofs.TakingSteps.{Ends, comes-turn, comes-waits, has_first-Keeps, same-step, seen-first}
+use Rattle.sc_expand.proofs.TakenLemmas.{first-still}
+use Rattle.sc_expand.proofs.WorkListLemmas.{has_each-Keeps}
 use Rattle.sc_expand.specs.Machine.{IsHeldExpansion, at, ends_at}
 use Rattle.sc_expand.proofs.WaitingLemmas.{kept-held}
 use Rattle.sc_expand.specs.Running.{IsApart}
@@ -20,6 +24,7 @@ use Rattle.sc_expand.specs.Taking.{Comes, HasPutOut, IsBegun, IsHeldTaken, Step,
 use Rattle.sc_expand.specs.Turn.{At, Turn, over, passed}
 use Rattle.sc_expand.specs.declared.expansion.Expansion.{Expansion}
 use Rattle.sc_expand.specs.declared.taking.Taken.{Taken}
+use Rattle.sc_guarded.specs.Items.{items_at}
 use Rattle.sc_macro.specs.Seen.{text_of}
 use Rattle.sc_model.proofs.SetLemmas.{Denotes-self, IsConfig-Keeps, IsConfig-kept}
 use Rattle.sc_model.specs.Sets.{Denotes, IsCond, IsConfig, Keeps, Sets}
@@ -236,3 +241,29 @@ module _ {s0 s1 : Sets} {n files : List (List ℕ)} {table : MacroTable} {was : 
             comes-waits (provenance_of files) macros t begun.rest a (step_at st now taken c) comes (apart live) waits
         by true false has dead = untouched ((λ i. has i && dead i))
         by false l lacks live = untouched ((λ i. lacks i && s0.has was.refusals.live.0 c))
+
+    -- it has the token still, where it had it
+    pub take-first : (c : List ℕ) → IsConfig s0.arities c → IsApart s0 was c → st.sets.has now.refusals.waiting.0 c ≡ true → has_first st.sets now.top.work c ≡ s0.has item.0.0 c
+    take-first c listed apart waits = by (s0.has item.0.0 c) (s0.has was.refusals.live.0 c) refl refl
+      where
+        listed1 : IsConfig s1.arities c
+        listed1 = IsConfig-Keeps known.keeps listed
+
+        firsts : has_first s0 was.top.work c ≡ s0.has item.0.0 c
+        firsts = ap (λ l. has_first s0 l c) (first-is was.top.work item known.first)
+
+        untouched : (s0.has item.0.0 c && s0.has was.refusals.live.0 c) ≡ false → has_first st.sets now.top.work c ≡ s0.has item.0.0 c
+        untouched lacks =
+            let same = told.others c listed1 (known.meets.at c listed1 ∙ lacks) ∙ untaken-Grows first-grew was known.held c listed in
+            ap (λ (s : Step). s.first) same ∙ firsts
+
+        by : (b l : Bool) → s0.has item.0.0 c ≡ b → s0.has was.refusals.live.0 c ≡ l → has_first st.sets now.top.work c ≡ b
+        by true true has live =
+            let view = ap (λ (v : View). length v.work) (take-waits c listed apart waits).0 in
+            let tokens = ap length told.lists.tokens in
+            let long : length now.top.work ≡ length was.top.work = omega (arith, tokens, length-map now.top.work (λ (x : Cond × declared.Hidden). x.1), length-map was.top.work (λ (x : Cond × declared.Hidden). x.1)) in
+            let count : length (items_at st.sets now.top.work c) ≡ length (items_at s0 was.top.work c)
+            = omega (arith, view, length-map (items_at st.sets now.top.work c) (seen_hidden st.names st.hides), length-map (items_at s0 was.top.work c) (seen_hidden n was.sets)) in
+            first-still (last-earlier {s0 = s0} {s1 = s1} {s2 = st.sets} (has_each-Keeps was.top.work c known.keeps known.held.top.work.own listed) (told.rest c listed1).rest) long count (firsts ∙ has)
+        by true false has dead = untouched ((λ i. has i && dead i)) ∙ has
+        by false l lacks live = untouched ((λ i. lacks i && s0.has was.refusals.live.0 c)) ∙ lacks

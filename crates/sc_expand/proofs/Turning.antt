@@ -22,7 +22,7 @@ use Rattle.sc_expand.specs.declared.frame.Frame.{Frame}
 use Rattle.sc_expand.specs.Machine.{IsExpansion, IsHeldExpansion, IsResumed, Progress, Stands, at, at_call, rests, state_in, with_call}
 use Rattle.sc_expand.specs.Having.{HasLast, HasMore}
 use Rattle.sc_expand.specs.Running as running
-use Rattle.sc_expand.specs.Running.{GoesOn, IsAsLong, IsReady, IsTurned, KeepsLeft, Pushes, PutsOut, Rest, TakesFirst, bottom, bottom_by, last_of, next_by, next_of, put_by, put_out}
+use Rattle.sc_expand.specs.Running.{GoesOn, IsAsLong, IsReady, IsTurned, KeepsLeft, KeepsNext, Pushes, PutsOut, Rest, TakesFirst, bottom, bottom_by, last_of, next_by, next_of, put_by, put_out}
 use Rattle.sc_expand.specs.Seen.{AreHeld, Grows, IsHeldCall, IsHeldEnclosing, IsHeldFrame, Stores, View, calls_at, provenance_of, seen_at, view_at, waiting_at}
 use Rattle.sc_expand.specs.Unchanged as unchanged
 use Rattle.sc_expand.specs.Unchanged.{IsPushed, IsUncalled, LooksUpNone, Passes}
@@ -238,17 +238,21 @@ left-over {old} {new} e after calls r popped kept = record {
   some = kept.some;
 }
 
+keeps-over : {old new : Sets} (e after : Expansion) (calls : Vec Call) → IsNone Call e.top.calls.items calls.items → KeepsNext old new (with_calls e calls) after true → KeepsNext old new e after true
+keeps-over e after calls none (running.nothing_kept empty same) = running.nothing_kept (λ whole uncalled. empty whole none.after) same
+keeps-over e after calls none (running.first_kept item cond whole empty first put has) = running.first_kept item cond whole none.before first put has
+
 -- ---- turns
 
 module _ {old new : Stores} (grows : Grows old new) (files : List (List ℕ)) (macros : List ℕ → Macros) (e after : Expansion) (is : IsExpansion old (length files) e) where
   -- a turn of the configurations that have what is next
-  next-turn : (next : Cond) → next_of e ≡ Some next → IsReady old.sets e → IsHeldExpansion new (length files) after → PutsOut old new e.refusals.live.0 (put_out e) (put_out after) → Pushes new.sets e after true → KeepsLeft old new e after
+  next-turn : (next : Cond) → next_of e ≡ Some next → IsReady old.sets e → IsHeldExpansion new (length files) after → PutsOut old new e.refusals.live.0 (put_out e) (put_out after) → Pushes new.sets e after true → KeepsLeft old new e after → KeepsNext old.sets new.sets e after true
       → ((c d : List ℕ) → IsConfig old.sets.arities c → IsConfig old.sets.arities d → DefineNextAlike old (macros c) (macros d) c e → CallNextAlike old (macros c) c d e → IsAlikeExpansion old.sets c d no_others e → AreAlike old.sets c d e.rest → AreAlike new.sets c d after.rest) → IsAsLong e after → ((c : List ℕ) → IsConfig old.sets.arities c → Rest old new e after c)
       → (IsUncalled e → LooksUpNone old.sets old.names macros e → Passes new.sets e after)
       → ((c d : List ℕ) (others : Others) → IsConfig old.sets.arities c → IsConfig old.sets.arities d → DefineNextAlike old (macros c) (macros d) c e → CallNextAlike old (macros c) c d e → IsFirstIn others e
       → IsAlikeExpansion old.sets c d others e → IsAlikeExpansion new.sets c d others after)
       → ((c : List ℕ) → IsConfig old.sets.arities c → Progress (provenance_of files) (macros c) old new c e.below.items after.below.items (at old e c) (at new after c) (old.sets.has next.0 c)) → IsTurned files macros old new e after true
-  next-turn next here ready held out pushes left alike_left long rest passes alike progress = record {
+  next-turn next here ready held out pushes left keeps alike_left long rest passes alike progress = record {
     grows = grows;
     held = held;
     out = out;
@@ -256,6 +260,7 @@ module _ {old new : Stores} (grows : Grows old new) (files : List (List ℕ)) (m
     takes = λ c. old.sets.has next.0 c;
     progress = progress;
     left = left;
+    keeps = keeps;
     alike_left = alike_left;
     long = long;
     which = λ cond is c. ap (λ (k : Cond). old.sets.has k.0 c) (some-same (sym here ∙ is));
@@ -275,6 +280,7 @@ module _ {old new : Stores} (grows : Grows old new) (files : List (List ℕ)) (m
       (puts-same grows e.refusals.live.0 e after is.held out)
       (running.nothing out)
       (left-over e after calls (Some call) popped (gone.left (length files) (popped-held e is.held calls (Some call) popped) (call-held e is.held calls call popped)))
+      (running.nothing_kept (λ whole none. absurd (never-empty calls.items call (sym popped ∙ none))) gone.waits)
       (λ c d p q defines same inside all. rest-alike after grows is.held gone.waits p q all)
       (running.all (omega (arith, gone.long, ap length whole)))
       (λ c listed. running.put (subst (λ l. HasMore old.sets new.sets l (bottom after).work c) whole (gone.rest c listed)))
@@ -288,6 +294,7 @@ module _ {old new : Stores} (grows : Grows old new) (files : List (List ℕ)) (m
       (puts-top grows e.refusals.live.0 e after is.held taken.below taken.out)
       (push-taken grows e after taken.below none.before item first taken.pushes)
       (left-over e after calls None (none-split none) taken.left)
+      (keeps-over e after calls none taken.keeps)
       (λ c d p q defines same inside all. taken.alike_left c d p q (defines-next e calls none defines) (calls-next e calls none same) (none-alike e inside calls none) all)
       (long-taken grows e after taken.below none.before item first taken.long)
       (λ c listed. rest-taken grows e after taken.below none.before item first is.held listed (taken.rest c listed))
@@ -324,6 +331,7 @@ module _ (st : Stores) (files : List (List ℕ)) (macros : List ℕ → Macros) 
         subst (λ b. Progress (provenance_of files) (macros c) st st c e.below.items b.items (at st e c) (at st after c) (st.sets.has o.call.cond.0 c)) (sym later)
         (subst (λ bs. Progress (provenance_of files) (macros c) st st c bs below.items (at st e c) (at st after c) (st.sets.has o.call.cond.0 c)) (sym less)
         (left-progress (provenance_of files) (macros c) st c below.items o e after resumed work out refusals empty none.before waiting));
+    keeps = running.nothing_kept (λ whole uncalled. empty) waiting;
     alike_left = λ c d p q defines same inside all. rest-alike after (Grows-refl st) is.held waiting p q all;
     left = same-left (Grows-refl st) e after is.held waiting (left-bottom below o less work later) (left-out below o less out later);
     long = long-same st e after (left-bottom below o less work later);
@@ -357,6 +365,7 @@ module _ (st : Stores) (files : List (List ℕ)) (macros : List ℕ → Macros) 
           subst (λ bs. Stands st c bs (view_at st (record e.top { calls = calls }) c)) (sym lists) (subst (Stands st c e.below.items) (sym view) stands),
           ap (λ v. state_in st e.below.items v c) (sym view) ∙ ap (λ bs. state_in st bs (view_at st (record e.top { calls = calls }) c) c) (sym lists),
         ));
+    keeps = running.nothing_kept (λ whole uncalled. empty) refl;
     alike_left = λ c d p q defines same inside all. rest-alike (with_below e calls below) (Grows-refl st) is.held refl p q all;
     left = same-left (Grows-refl st) e (with_below e calls below) is.held refl (alone-bottom calls below less) (alone-out calls below less);
     long = long-same st e (with_below e calls below) (alone-bottom calls below less);

@@ -1,18 +1,24 @@
 -- What configurations that wait have left as the first token of a list is taken.
-use Rattle.std.proofs.Common.{◌≡◌, ◌<◌, ◌&&◌, ℕ, Bool, true, false, List, [], ◌∷◌, ◌++◌, All, append-nil, drop, length, refl, sym, ap, subst, ◌∙◌, if◌then◌else◌}
+use Rattle.std.proofs.Common.{◌≡◌, ◌<◌, ◌&&◌, ℕ, Bool, true, false, List, [], ◌∷◌, ◌++◌, All, None, Some, append-nil, drop, length, map, slice_get, refl, sym, ap, subst, ◌∙◌, if◌then◌else◌}
+use Rattle.std.proofs.Math.Bool.{and-false}
 use Rattle.sc_base.specs.declared.id.Cond.{Cond}
 use Rattle.sc_expand.proofs.AlikeLemmas.{others-none}
 use Rattle.sc_expand.proofs.PuttingOut.{some-Keeps}
+use Rattle.sc_expand.proofs.Rests.{first-is, some-same}
 use Rattle.sc_expand.proofs.SeenLemmas.{Grows-trans, seen_at-Grows, seen_at-append}
-use Rattle.sc_expand.proofs.TakingTurns.{put-seen}
+use Rattle.sc_expand.proofs.TakingTurns.{first-token, put-seen}
 use Rattle.sc_expand.proofs.WaitingLemmas.{kept-alike, kept-inside, kept-left, kept-others, kept-some, rest-alike, same-left, whole-alike}
 use Rattle.sc_expand.specs.declared.expansion.Expansion.{Expansion}
 use Rattle.sc_expand.specs.declared.frame.Enclosing.{Enclosing}
 use Rattle.sc_expand.specs.declared.taking.Taken.{Taken}
 use Rattle.sc_expand.specs.Machine.{IsHeldExpansion, KeepsLists, at}
-use Rattle.sc_expand.specs.Running.{IsApart, KeepsLeft, bottom, bottom_by}
+use Rattle.sc_expand.specs.Running as running
+use Rattle.sc_expand.specs.Running.{IsApart, KeepsLeft, KeepsNext, bottom, bottom_by}
 use Rattle.sc_expand.specs.Seen.{Grows, Stores, View, seen_at}
-use Rattle.sc_expand.specs.Taking.{HasPutOut, IsHeldTaken}
+use Rattle.sc_expand.specs.Taking.{HasPutOut, IsHeldTaken, has_first}
+use Rattle.sc_expand.specs.Unchanged.{IsPushed}
+use Rattle.sc_expand.specs.Waiting as waiting
+use Rattle.sc_expand.specs.Waiting.{KeepsFirst}
 use Rattle.sc_expand.specs.Alike.{IsAlikeExpansion, IsFirstIn, no_others}
 use Rattle.sc_hoist.specs.Alike.{AreAlike}
 use Rattle.sc_model.proofs.SetLemmas.{IsConfig-Keeps, IsConfig-kept}
@@ -70,6 +76,44 @@ put-out-left {old} {st} {new} {files} grows later was now next taken token held 
         let rest = kept-inside new later.sets held_now.top.work.own put.rest (λ whole. (let no : b ∷ bs ≡ [] = sym is ∙ (sym (ap (λ b. b.items) lists.below) ∙ whole) in cc)) in
         let bottom_same : bottom next ≡ bottom was = ap (λ l. bottom_by l.items next.top) below_same ∙ (ap (λ l. bottom_by l next.top) is ∙ sym (ap (λ l. bottom_by l was.top) is)) in
         same-left all was next held (rest ∙ lists.rest) (ap (λ f. f.work) bottom_same) (ap (λ f. f.out) bottom_same)
+
+first-none : {A : Type 0} {x : A} → None ≡ Some x → ⊥
+first-none is = cc
+
+-- the token is kept where those that wait have it
+pub put-out-keeps : {old st new : Stores} {files : ℕ} → Grows old st → Grows st new → (was now next : Expansion) (taken : Taken) (token : Hidden) (item : Cond × Hidden) → IsHeldExpansion st files now → KeepsLists was now
+    → HasPutOut st.sets new.sets taken token now next → was.top.calls.items ≡ [] → slice_get was.top.work 0 ≡ Some item
+    → ((c : List ℕ) → IsConfig old.sets.arities c → IsApart old.sets was c → st.sets.has now.refusals.waiting.0 c ≡ true → has_first st.sets now.top.work c ≡ old.sets.has item.0.0 c) → KeepsNext old.sets new.sets was next true
+put-out-keeps {old} {st} {new} grows later was now next taken token item held lists put calls first firsts = by put.rest
+  where
+    token-is : (x : Cond × Hidden) → slice_get now.top.work 0 ≡ Some x → x.1 ≡ item.1
+    token-is x at = some-same (sym (first-token now.top.work x at) ∙ (ap (λ l. slice_get l 0) lists.tokens ∙ first-token was.top.work item first))
+
+    has : (x : Cond × Hidden) (cond : Cond) → slice_get now.top.work 0 ≡ Some x → Denotes new.sets cond.0 (λ c. st.sets.has x.0.0 c && st.sets.has now.refusals.waiting.0 c) → (c : List ℕ) → IsConfig old.sets.arities c → IsApart old.sets was c
+        → new.sets.has cond.0 c ≡ (old.sets.has item.0.0 c && new.sets.has next.refusals.waiting.0 c)
+    has x cond at meets c listed apart = meets.at c (IsConfig-Keeps later.sets listed1) ∙ by (st.sets.has now.refusals.waiting.0 c) refl
+      where
+        listed1 : IsConfig st.sets.arities c
+        listed1 = IsConfig-Keeps grows.sets listed
+
+        still : new.sets.has next.refusals.waiting.0 c ≡ st.sets.has now.refusals.waiting.0 c
+        still = ap (λ r. new.sets.has r.waiting.0 c) put.refusals ∙ later.sets.at now.refusals.waiting.0 c held.refusals.waiting listed1
+
+        by : (b : Bool) → st.sets.has now.refusals.waiting.0 c ≡ b → (st.sets.has x.0.0 c && st.sets.has now.refusals.waiting.0 c) ≡ (old.sets.has item.0.0 c && new.sets.has next.refusals.waiting.0 c)
+        by true waits =
+            let same : st.sets.has x.0.0 c ≡ old.sets.has item.0.0 c = sym (ap (λ l. has_first st.sets l c) (first-is now.top.work x at)) ∙ firsts c listed apart waits in
+            λ i. same i && sym still i
+        by false not =
+            let none = still ∙ not in
+            (ap (λ b. st.sets.has x.0.0 c && b) not ∙ and-false (st.sets.has x.0.0 c)) ∙ sym (ap (λ b. old.sets.has item.0.0 c && b) none ∙ and-false (old.sets.has item.0.0 c))
+
+    by : KeepsFirst st.sets new.sets now.refusals.waiting.0 now.below.items now.top.work now.rest next.rest → KeepsNext old.sets new.sets was next true
+    by (waiting.none empty same) =
+        running.nothing_kept (λ whole uncalled. absurd (first-none (ap (λ (l : List (Cond × Hidden)). slice_get (map (λ (x : Cond × Hidden). x.1) l) 0) (sym (empty (ap (λ b. b.items) lists.below ∙ whole)))
+        ∙ (ap (λ l. slice_get l 0) lists.tokens ∙ first-token was.top.work item first)))) (same ∙ lists.rest)
+    by (waiting.kept x cond whole at meets push) =
+        running.first_kept item cond (sym (ap (λ b. b.items) lists.below) ∙ whole) calls first
+        (subst (λ (z : Hidden × List (Cond × Hidden)). IsPushed new.sets cond z.0 z.1 next.rest) (λ i. (token-is x at i, lists.rest i)) push) (has x cond at meets)
 
 -- both have what waits, or neither
 pub put-out-alike : {st new : Stores} {files : ℕ} → Grows st new → (now next : Expansion) (taken : Taken) (token : Hidden) → IsHeldExpansion st files now → HasPutOut st.sets new.sets taken token now next → {c d : List ℕ} → IsConfig st.sets.arities c → IsConfig st.sets.arities d

@@ -17,7 +17,7 @@ use Rattle.sc_expand.specs.declared.taking.Taken.{Taken}
 use Rattle.sc_expand.specs.Having.{tokens_in}
 use Rattle.sc_expand.specs.Seen.{Stores}
 use Rattle.sc_hoist.specs.Alike.{AreAlike, AreAlikeFaults, IsAlike}
-use Rattle.sc_hoist.specs.Calls.{call_end_at, call_places}
+use Rattle.sc_hoist.specs.Calls.{call_end_at, call_places, closed}
 use Rattle.sc_macro.specs.Seen.{text_of}
 use Rattle.sc_model.specs.Sets.{Sets}
 use Rattle.sc_model.specs.Token.{Token}
@@ -56,10 +56,10 @@ pub record IsAlikeTaken (s : Sets) (c d : List ℕ) (taken : Taken) : Type 0 whe
   pub stays : IsAlike s c d taken.stays
   pub made : AreAlike s c d taken.made.items
 
--- the name that stands first is called by the same tokens, or by none
+-- the call of the name that stands first ends alike, and by the same tokens where one closes it
 pub record IsSameCall (s : Sets) (names : List (List ℕ)) (c d : List ℕ) (list : List (Cond × Hidden)) : Type 0 where
   pub ends : call_end_at s names (tokens_in list) 0 c ≡ call_end_at s names (tokens_in list) 0 d
-  pub places : call_places s names (tokens_in list) 0 c ≡ call_places s names (tokens_in list) 0 d
+  pub places : call_end_at s names (tokens_in list) 0 c ≡ closed → call_places s names (tokens_in list) 0 c ≡ call_places s names (tokens_in list) 0 d
 
 -- ---- all of an expansion
 

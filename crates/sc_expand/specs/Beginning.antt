@@ -4,7 +4,7 @@ use Rattle.c11_macros.specs.Hidden as model
 use Rattle.c11_macros.specs.Hidden.{HideSet, Provenance, meet, with_name}
 use Rattle.c11_macros.specs.Macros.{Form}
 use Rattle.sc_model.specs.Token.{Item}
-use Rattle.c11_macros.specs.Substitution.{argument, neither, parts, slots, substituted, wanted_of}
+use Rattle.c11_macros.specs.Substitution.{argument, list_slots, substituted, wanted_of}
 use Rattle.sc_base.specs.declared.id.Cond.{Cond}
 use Rattle.sc_base.specs.declared.id.Name.{Name}
 use Rattle.sc_base.specs.declared.place.Place.{Place}
@@ -37,7 +37,7 @@ with_argument raw n = (n, argument raw n)
 -- at a name at this place no # of the list fails, and whatever the arguments expand to, the
 -- template makes its replacement with them
 pub record IsTemplateOf (names : List (List ℕ)) (sets : List (List Name)) (form : Form) (items : List Item) (arguments : List (List (model.Hidden Place))) (place : Place) (template : Template) : Type 0 where
-  pub stringized : (head : model.Hidden Place) → head.place ≡ place → is_ok (slots head arguments (parts form neither items)) ≡ true
+  pub stringized : (head : model.Hidden Place) → head.place ≡ place → is_ok (list_slots head arguments form items) ≡ true
   pub completes : (s : Sets) (head : model.Hidden Place) (expanded : List (List (model.Hidden Place))) (provenance : Provenance Place) (hidden : HideSet) → head.place ≡ place
       → substituted provenance form items head arguments expanded hidden ≡ completed provenance head hidden expanded (seen_template (stores s names sets) place template)
 

@@ -5,7 +5,7 @@ use Rattle.c11_macros.specs.Expansion.{is_looked_up, list_of}
 use Rattle.c11_macros.specs.Hidden as model
 use Rattle.c11_macros.specs.Hidden.{Failure, Provenance}
 use Rattle.c11_macros.specs.Macros.{Definition, Macros}
-use Rattle.c11_macros.specs.Substitution.{Slot, neither, parts, slots}
+use Rattle.c11_macros.specs.Substitution.{Slot, list_slots}
 use Rattle.sc_base.specs.declared.place.Place.{Place}
 use Rattle.sc_expand.specs.declared.expansion.Expansion.{Expansion}
 use Rattle.sc_expand.specs.Gather.{Gathers}
@@ -89,7 +89,7 @@ pub record HasLeft (old new : Sets) (names : List (List ℕ)) (was now : Expansi
 pub data Begins (provenance : Provenance Place) (d : Definition) (t close : model.Hidden Place) (arguments : List (List (model.Hidden Place))) (a b : At) : Type 0 where
   waits : (template : Result (List (Slot Place)) (Failure Place)) → IsTemplate provenance d t arguments template
       → b ≡ record a { view = with_call a.view (gathered provenance d t arguments close template) } → Begins provenance d t close arguments a b
-  refused : (failure : Failure Place) → slots t arguments (parts d.form neither (list_of provenance d t)) ≡ Err failure
+  refused : (failure : Failure Place) → list_slots t arguments d.form (list_of provenance d t) ≡ Err failure
       → b.live ≡ false → b.ends ≡ with_end a.ends (fails failure) → Begins provenance d t close arguments a b
 
 -- The call of a name with these arguments begins to wait in the configurations of a condition, or

@@ -28,3 +28,4 @@ pub mod FirstCalls
 pub mod Open
 pub mod Closing
 pub mod Settling
+pub mod Thin

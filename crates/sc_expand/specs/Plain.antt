@@ -4,7 +4,7 @@ use Rattle.std.specs.Prelude.{◌≡◌, ℕ, List, [], ◌∷◌, ◌++◌, map
 use Rattle.c11_macros.specs.Expansion.{called, case_of, list_of, misfit, object_result, replaced, stays, unclosed}
 use Rattle.c11_macros.specs.Hidden.{Failure, Hidden, HideSet, Provenance, failure_at, meet, with_name}
 use Rattle.c11_macros.specs.Macros.{Definition, Macros}
-use Rattle.c11_macros.specs.Substitution.{Slot, argument, neither, parts, slots, substituted, wanted_of}
+use Rattle.c11_macros.specs.Substitution.{Slot, argument, list_slots, substituted, wanted_of}
 use Rattle.sc_subst.specs.Halves.{completed}
 use Rattle.sc_model.specs.declared.cause.Cause.TheVariants.{UnterminatedCall, WrongArguments}
 
@@ -49,7 +49,7 @@ gathered provenance d t arguments close template = record {
 -- no # of the list fails, and whatever the arguments of the call expand to, the template makes its
 -- replacement with them
 pub record IsTemplate {P : Type 0} (provenance : Provenance P) (d : Definition) (t : Hidden P) (arguments : List (List (Hidden P))) (template : Result (List (Slot P)) (Failure P)) : Type 0 where
-  pub stringized : is_ok (slots t arguments (parts d.form neither (list_of provenance d t))) ≡ true
+  pub stringized : is_ok (list_slots t arguments d.form (list_of provenance d t)) ≡ true
   pub completes : (expanded : List (List (Hidden P))) (names : HideSet) → substituted provenance d.form (list_of provenance d t) t arguments expanded names ≡ completed provenance t names expanded template
 
 -- the call's replacement, once its arguments are expanded; its failure is that of the template
@@ -86,7 +86,7 @@ pub data Fails {P : Type 0} (provenance : Provenance P) (macros : Macros) : Stat
   -- a # fails, before any argument expands
   bad_stringize : (out rest after : List (Hidden P)) (t close : Hidden P) (d : Definition) (arguments : List (List (Hidden P))) (failure : Failure P)
       → case_of macros t rest ≡ called d arguments close after
-      → slots t arguments (parts d.form neither (list_of provenance d t)) ≡ Err failure
+      → list_slots t arguments d.form (list_of provenance d t) ≡ Err failure
       → Fails provenance macros (scanning out (t ∷ rest)) failure
   bad_paste : (out work : List (Hidden P)) (w : Waiting P) (failure : Failure P) → w.wanted ≡ [] → replacement_of provenance w ≡ Err failure → Fails provenance macros (waiting out work w) failure
   inside_fails : (out work : List (Hidden P)) (w : Waiting P) (n : ℕ) {s : State P} {failure : Failure P} → Fails provenance macros s failure → Fails provenance macros (expanding out work w n s) failure

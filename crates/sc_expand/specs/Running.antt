@@ -1,5 +1,5 @@
 -- The turns of an expansion, from the first to the last.
-use Rattle.std.specs.Prelude.{◌≡◌, ℕ, ◌+◌, ◌-◌, ◌++◌, Bool, true, false, List, [], ◌∷◌, All, Option, Some, None, length, slice_get, sum_by, ◌≤◌, suc}
+use Rattle.std.specs.Prelude.{◌≡◌, ℕ, ◌+◌, ◌-◌, ◌&&◌, ◌++◌, Bool, true, false, List, [], ◌∷◌, All, Option, Some, None, length, slice_get, sum_by, ◌≤◌, suc}
 use Rattle.c11_macros.specs.Hidden as model
 use Rattle.c11_macros.specs.Hidden.{Failure, Provenance}
 use Rattle.c11_macros.specs.Macros.{Macros}
@@ -15,7 +15,7 @@ use Rattle.sc_expand.specs.Having.{HasLast, HasMore, behind_at}
 use Rattle.sc_expand.specs.Machine.{IsHeldExpansion, Progress, at, at_call}
 use Rattle.sc_expand.specs.Seen.{Grows, IsHeldCall, Stores, provenance_of, seen_at}
 use Rattle.sc_expand.specs.Turn.{Turn}
-use Rattle.sc_expand.specs.Unchanged.{Drops, IsPushed, IsUncalled, LooksUpNone, Passes}
+use Rattle.sc_expand.specs.Unchanged.{Drops, IsPushed, IsRestricted, IsUncalled, LooksUpNone, Passes}
 use Rattle.sc_expand.specs.Waiting.{KeepsFirst}
 use Rattle.sc_hoist.specs.Alike.{AreAlike}
 use Rattle.sc_model.specs.Sets.{Sets, IsConfig, IsNever}
@@ -101,6 +101,20 @@ pub record KeepsLeft (old new : Stores) (was now : Expansion) : Type 0 where
   pub others : (c : List ℕ) → IsConfig old.sets.arities c → new.sets.has now.refusals.waiting.0 c ≡ false → seen_at new now.rest c ≡ seen_at old was.rest c
   pub some : All (λ item. IsNever old.sets item.0.0 → ⊥) was.rest → All (λ item. IsNever new.sets item.0.0 → ⊥) now.rest
 
+-- A turn keeps nothing, or the first token of the whole list: those that wait then have it there.
+pub data KeepsNext (old new : Sets) (e after : Expansion) : Bool → Type 0 where
+  nothing_kept : {went : Bool} → (e.below.items ≡ [] → e.top.calls.items ≡ [] → e.top.work ≡ []) → after.rest ≡ e.rest → KeepsNext old new e after went
+  first_kept : (item : Cond × Hidden) (cond : Cond) → e.below.items ≡ [] → e.top.calls.items ≡ [] → slice_get e.top.work 0 ≡ Some item → IsPushed new cond item.1 e.rest after.rest
+      → ((c : List ℕ) → IsConfig old.arities c → IsApart old e c → new.has cond.0 c ≡ (old.has item.0.0 c && new.has after.refusals.waiting.0 c)) → KeepsNext old new e after true
+
+-- First tokens of the whole list are gone, and those that wait keep them.
+pub record KeepsGone (s : Sets) (e after : Expansion) : Type 0 where
+  pub gone : List (Cond × Hidden)
+  pub kept : List (Cond × Hidden)
+  pub work : (bottom e).work ≡ gone ++ (bottom after).work
+  pub rest : after.rest ≡ e.rest ++ kept
+  pub is : IsRestricted s e.refusals.waiting.0 gone kept
+
 -- ---- turns
 
 -- each configuration that was not refused is where it was, and so is what was put out
@@ -113,6 +127,7 @@ pub record IsRested (old new : Stores) (e after : Expansion) : Type 0 where
   pub progress : (files : ℕ) (provenance : Provenance Place) (macros : Macros) (c : List ℕ) → IsHeldExpansion old files e → IsConfig old.sets.arities c
       → Progress provenance macros old new c e.below.items after.below.items (at old e c) (at new after c) false
   pub left : (files : ℕ) → IsHeldExpansion old files e → KeepsLeft old new e after
+  pub keeps : (files : ℕ) → IsHeldExpansion old files e → KeepsGone new.sets e after
   pub alike_left : (files : ℕ) (c d : List ℕ) → IsHeldExpansion old files e → IsConfig old.sets.arities c → IsConfig old.sets.arities d → IsAlikeExpansion old.sets c d no_others e
       → AreAlike old.sets c d e.rest → AreAlike new.sets c d after.rest
   pub drops : (files : ℕ) → IsHeldExpansion old files e → IsUncalled e → Drops old.sets e after
@@ -150,6 +165,7 @@ pub record IsTurned (files : List (List ℕ)) (macros : List ℕ → Macros) (ol
   pub progress : (c : List ℕ) → IsConfig old.sets.arities c
       → Progress (provenance_of files) (macros c) old new c e.below.items after.below.items (at old e c) (at new after c) (takes c)
   pub left : KeepsLeft old new e after
+  pub keeps : KeepsNext old.sets new.sets e after went
   pub alike_left : (c d : List ℕ) → IsConfig old.sets.arities c → IsConfig old.sets.arities d → DefineNextAlike old (macros c) (macros d) c e → CallNextAlike old (macros c) c d e
       → IsAlikeExpansion old.sets c d no_others e → AreAlike old.sets c d e.rest → AreAlike new.sets c d after.rest
   pub long : IsAsLong e after
@@ -199,6 +215,7 @@ pub record TakesFirst (files : List (List ℕ)) (macros : List ℕ → Macros) (
   pub out : PutsOut old new was.refusals.live.0 was.top.out now.top.out
   pub pushes : (item : Cond × Hidden) → slice_get was.top.work 0 ≡ Some item → (cond : Cond) × IsPushed new.sets cond item.1 was.top.out now.top.out
   pub left : KeepsLeft old new was now
+  pub keeps : KeepsNext old.sets new.sets was now true
   pub alike_left : (c d : List ℕ) → IsConfig old.sets.arities c → IsConfig old.sets.arities d → DefineNextAlike old (macros c) (macros d) c was → CallNextAlike old (macros c) c d was
       → IsAlikeExpansion old.sets c d no_others was → AreAlike old.sets c d was.rest → AreAlike new.sets c d now.rest
   pub passes : IsUncalled was → LooksUpNone old.sets old.names macros was → Passes new.sets was now

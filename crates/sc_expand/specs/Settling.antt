@@ -1,5 +1,5 @@
 -- What a list settles to under all configurations at once, seen at one.
-use Rattle.std.specs.Prelude.{◌≡◌, ℕ, ◌<◌, false, List, [], All, length}
+use Rattle.std.specs.Prelude.{◌≡◌, ℕ, ◌<◌, false, List, [], All}
 use Rattle.c11_macros.specs.Macros.{Macros}
 use Rattle.sc_base.specs.declared.id.Cond.{Cond}
 use Rattle.sc_base.specs.Seen.{IsHeld}
@@ -7,7 +7,7 @@ use Rattle.sc_expand.specs.declared.settling.Settled.{Settled}
 use Rattle.sc_expand.specs.Having.{tokens_in}
 use Rattle.sc_expand.specs.Running.{IsDone}
 use Rattle.sc_expand.specs.Seen.{AreHeld, Stores, failures_at, provenance_of, seen_at}
-use Rattle.sc_expand.specs.Spans.{InSegments}
+use Rattle.sc_expand.specs.Spans.{Becomes}
 use Rattle.sc_guarded.specs.Items.{items_at}
 use Rattle.sc_model.specs.Sets.{IsCond, IsConfig, IsNever}
 use Rattle.sc_subst.specs.declared.hidden.Hidden.{Hidden}
@@ -22,7 +22,7 @@ pub record IsSettled (old new : Stores) (files : List (List ℕ)) (macros : List
   pub is : (c : List ℕ) → IsConfig old.sets.arities c → IsDone (provenance_of files) (macros c) (seen_at old list c) (seen_at new out c) (seen_at new s.rest c) (failures_at new.sets s.held.items c)
       (old.sets.has live c)
   pub none : (c : List ℕ) → IsConfig old.sets.arities c → old.sets.has live c ≡ false → items_at new.sets out c ≡ []
-  pub segments : InSegments (seen_hidden old.names old.hides) (provenance_of files) macros old.sets list live new.sets (seen_hidden new.names new.hides) (length list) out
+  pub segments : Becomes (seen_hidden old.names old.hides) (provenance_of files) macros old.sets list live new.sets (seen_hidden new.names new.hides) out s.rest
 
 -- the stores made all conditions, texts and hide sets, the table of file names has so many, and
 -- each token that is put out is some configuration's

@@ -1,9 +1,9 @@
 //! The arguments of a call (C11 6.10.3p4, p10 to p12).
-ghost use Rattle.std.specs.Prelude.{◌≡◌, ℕ, zero, ◌+◌, ◌^◌, ◌<◌, ◌≤◌, ◌↔◌, ◌++◌, ◌∷◌, [], Bool, List, All, Some, drop, length, slice_get, IsTrue, IfOk, IfSome, OnOk};
+ghost use Rattle.std.specs.Prelude.{◌≡◌, ℕ, zero, ◌+◌, ◌^◌, ◌<◌, ◌≤◌, ◌↔◌, ◌++◌, ◌∷◌, [], List, Option, All, Some, is_some, drop, length, slice_get, IsTrue, IfOk, IfSome, OnOk};
 ghost use Rattle.std.specs.Option.{option_map};
 ghost use Rattle.c11_macros.specs.Call as call;
 ghost use Rattle.c11_macros.specs.Call.{arguments_for};
-ghost use Rattle.c11_macros.specs.Macros.{function_like};
+ghost use Rattle.c11_macros.specs.Macros.{Rest, function_like};
 ghost use Rattle.sc_macro.specs.Seen.{seen_form};
 ghost use Rattle.sc_base.specs.declared.id.Name as declared_name;
 ghost use Rattle.sc_base.specs.declared.place.Place as declared_place;
@@ -22,7 +22,7 @@ use sc_subst::Tokens;
 use std::alloc::Global;
 
 /// The arguments of a call of a function-like macro, by the tokens between its parentheses: one for
-/// each parameter, that for `...` last. `None` where so many do not fit.
+/// each parameter, that for the rest last. `None` where so many do not fit.
 pub fn arguments(
     alloc: Global,
     names: &Names,
@@ -30,27 +30,24 @@ pub fn arguments(
     form: &Form,
 ) -> Result<Option<Vec<Tokens>>, OutOfMemory>
     requires { All (λ h. h.token.spelling.0 < length names.now) between.now }
-    ensures is { IfOk result (λ fit. (sets : List (List declared_name.Name)) (parameters : List (List ℕ)) (variadic : Bool) → seen_form names.now form.now
-        ≡ function_like parameters variadic
+    ensures is { IfOk result (λ fit. (sets : List (List declared_name.Name)) (parameters : List (List ℕ)) (rest : Option Rest) → seen_form names.now form.now
+        ≡ function_like parameters rest
         → option_map (λ made. seen_arguments names.now sets made.items) fit
-        ≡ arguments_for parameters variadic (model.parted (length parameters) 0 (seen_list names.now sets between.now))) }
+        ≡ arguments_for parameters (is_some rest) (model.parted (length parameters) 0 (seen_list names.now sets between.now))) }
     ensures own { IfOk result (λ fit. (sets : List (List declared_name.Name)) → All (IsHeldHidden names.now sets) between.now
         → IfSome fit (λ made. All (All (IsHeldHidden names.now sets)) made.items)) }
 {
     match form {
         Form::Object => Ok(None),
-        Form::Function {
-            parameters,
-            variadic,
-        } => {
+        Form::Function { parameters, rest } => {
             let parted = parted(alloc, names, between, parameters.len())?;
-            let fit = fitted(alloc, parted, parameters.len(), *variadic)?;
+            let fit = fitted(alloc, parted, parameters.len(), rest.is_some())?;
             Ok(fit)
         }
     }
 }
 
-/// The arguments for so many parameters, where so many are given. None need be given for `...`.
+/// The arguments for so many parameters, where so many are given. None need be given for the rest.
 fn fitted(
     alloc: Global,
     given: Vec<Tokens>,

@@ -2,7 +2,7 @@
 ghost use Rattle.std.specs.Prelude.{◌≡◌, ◌+◌, ◌<◌, ◌≤◌, ℕ, ◌&&◌, ◌||◌, ◌++◌, ◌∷◌, [], Bool, true, false, List, Result, Ok, Err, Some, All, map, drop, if◌then◌else◌, reverse, length, slice_get, IfOk, IfSome, IfNone, OnOk, take};
 ghost use Rattle.c11_macros.specs.Hidden as model;
 ghost use Rattle.c11_macros.specs.Hidden.{failure_at, meet, with_name};
-ghost use Rattle.c11_macros.specs.Substitution.{argument, neither, parts, slots, wanted_of};
+ghost use Rattle.c11_macros.specs.Substitution.{argument, list_slots, wanted_of};
 ghost use Rattle.sc_base.specs.declared.id.Cond as declared_cond;
 ghost use Rattle.sc_base.specs.declared.id.Name as declared_name;
 ghost use Rattle.sc_base.specs.declared.place.Place as declared_place;
@@ -51,7 +51,7 @@ fn template_of(
         → All (All (λ h. h.token.place.file.0 < files)) raw.now
         → IsHeldTemplate (stores s names.new sets.new) files template)) }
     ensures none { IfOk result (λ made. IfNone made (Lasting names.new sets.new (λ names sets. (head : model.Hidden declared_place.Place) → head.place ≡ place
-        → slots head (seen_arguments names sets raw.now) (parts (seen_form names form.now) neither (map (seen_item names) items.now))
+        → list_slots head (seen_arguments names sets raw.now) (seen_form names form.now) (map (seen_item names) items.now)
         ≡ Err (failure_at BadStringize head)))) }
 
     // at every outcome
@@ -269,7 +269,7 @@ pub fn begin_call(
     ensures held { IfOk result (λ made. IfSome made (λ call. (s : Sets) (files : ℕ) → IsCond s cond.0 → IsHeldToken (stores s names.old sets.old) files head
         → All (All (IsHeldToken (stores s names.old sets.old) files)) raw.now → IsHeldCall (stores s names.new sets.new) files call)) }
     ensures none { IfOk result (λ made. IfNone made ((at : model.Hidden declared_place.Place) → at.place ≡ head.token.place
-        → slots at (seen_arguments names.new sets.new raw.now) (parts (seen_form names.new form.now) neither (map (seen_item names.new) items.now))
+        → list_slots at (seen_arguments names.new sets.new raw.now) (seen_form names.new form.now) (map (seen_item names.new) items.now)
         ≡ Err (failure_at BadStringize at))) }
 
     // at every outcome

@@ -1,5 +1,5 @@
 //! Laws about the definitions, each the contract of a function without code.
-ghost use Rattle.std.specs.Prelude.{◌≡◌, ℕ, ◌+◌, ◌<◌, true, false, [], ◌∷◌, Err, List, All, Ok, Result, length, map};
+ghost use Rattle.std.specs.Prelude.{◌≡◌, ℕ, ◌+◌, ◌<◌, true, false, [], ◌∷◌, Err, List, All, Ok, Result, Some, length, map, slice_get};
 ghost use Rattle.c11_macros.specs.Expansion.{Expands, IsWithin};
 ghost use Rattle.c11_macros.specs.Footprint.{footprint};
 ghost use Rattle.c11_macros.specs.Hidden.{Failure, Hidden, Provenance};
@@ -7,11 +7,15 @@ ghost use Rattle.c11_macros.specs.Macros.{Macros};
 ghost use Rattle.c11_macros.specs.Runs.{End, IsHeld, Runs, Settles, Uses, after_these, fails, over};
 ghost use Rattle.c11_macros.specs.Text.{TextExpands};
 ghost use Rattle.c11_macros.specs.Trace.{Agree, trace};
+ghost use Rattle.sc_base.specs.declared.id.Cond.{Cond};
 ghost use Rattle.sc_expand.specs.Moved.{IsKept, moved, moved_answer, moved_failure};
 ghost use Rattle.sc_expand.specs.OneLine.{AreOneLine, IsInPlace, IsOneLine};
 ghost use Rattle.sc_expand.specs.Open.{LeadsOn, Waits, closed};
 ghost use Rattle.sc_expand.specs.Plain.{Fails, Leads, Moves, State, scanning};
+ghost use Rattle.sc_expand.specs.Spans.{InSegments, IsSettling, of_item};
+ghost use Rattle.sc_expand.specs.Thin.{IsThin};
 ghost use Rattle.sc_model.specs.Bytes.{has_no_newline};
+ghost use Rattle.sc_model.specs.Sets.{IsConfig, Sets};
 ghost use Rattle.sc_model.specs.Token.{Token};
 
 /// What the steps of a list put out is its expansion, and a failure that ends them is its first.
@@ -41,6 +45,17 @@ pub fn settled_list_closes<P>()
         → Settles provenance macros list done rest → Expands provenance macros list (after_these done (closed rest)) }
     ensures held { (provenance : Provenance P) (macros : Macros) (list : List (Hidden P)) (failure : Failure P)
         → IsHeld provenance macros list failure → Expands provenance macros list (Err failure) }
+{}
+
+/// A list that has settled is thin: of an item that configurations expand alike, or that itself
+/// stays or waits, they have the same in one element.
+pub fn settled_list_is_thin<T, P>()
+    ensures { (see : T → Hidden P) (provenance : Provenance P) (macros : List ℕ → Macros) (s : Sets) (list : List (Cond × T)) (cond : ℕ)
+        (later : Sets) (look : T → Hidden P) (count : ℕ) (out : List (Cond × T)) (kept : List (ℕ × (Cond × T)))
+        (b : InSegments see provenance macros s list cond later look count out kept) (at : ℕ) (x : List (Cond × T)) → slice_get b.segments at ≡ Some x
+        → (c d : List ℕ) → IsConfig s.arities c → IsConfig s.arities d → s.has cond c ≡ true → s.has cond d ≡ true
+        → IsSettling see provenance macros s list c → IsSettling see provenance macros s list d
+        → IsThin see provenance macros s list at later x (of_item at kept) c d }
 {}
 
 /// Where finitely many names are defined, steps do not go on for ever: each leaves fewer.

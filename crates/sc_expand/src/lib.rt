@@ -26,7 +26,7 @@ pub use closing::close;
 pub use expanding::expand;
 pub use laws::{
     expansion_commutes_with_maps_of_places, expansion_stays_on_one_line, runs_take_the_footprint,
-    settled_list_closes, settling_commutes_with_maps_of_places,
+    settled_list_closes, settled_list_is_thin, settling_commutes_with_maps_of_places,
     steps_depend_on_the_names_looked_up, steps_end, steps_give_the_expansion,
     steps_settle_the_list,
 };

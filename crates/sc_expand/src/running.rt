@@ -6,7 +6,7 @@ ghost use Rattle.sc_expand.specs.Machine.{IsExpansion, IsHeldExpansion};
 ghost use Rattle.sc_expand.specs.Running.{IsDone, IsDropped, IsReady, IsRested, IsTurned, IsUntouched, PutsOut, next_of, put_out, weight};
 ghost use Rattle.sc_expand.specs.Seen.{Grows, failures_at, provenance_of, seen_at, stores};
 ghost use Rattle.sc_expand.specs.CallStops.{StopsAt};
-ghost use Rattle.sc_expand.specs.Spans.{InSegments, StopsApart};
+ghost use Rattle.sc_expand.specs.Spans.{Becomes, StopsApart};
 ghost use Rattle.sc_expand.specs.Unchanged.{IsRestricted, LooksUpNone};
 ghost use Rattle.sc_hoist.specs.Alike.{AreAlike};
 ghost use Rattle.sc_model.specs.Growth.{Extends};
@@ -41,9 +41,9 @@ impl Expansion {
             (seen_at (stores (C.sets conds.new) names.new self.new.sets) self.new.rest c) (failures_at (C.sets conds.new) self.new.refusals.faults.items c)
             ((C.sets conds.old).has self.old.refusals.live.0 c)
             × ((C.sets conds.new).has self.new.refusals.waiting.0 c ≡ false → seen_at (stores (C.sets conds.new) names.new self.new.sets) self.new.rest c ≡ [])) }
-        ensures segments { OnOk result (InSegments (seen_hidden names.old self.old.sets) (provenance_of files.now)
+        ensures segments { OnOk result (Becomes (seen_hidden names.old self.old.sets) (provenance_of files.now)
             (macros_at (C.sets conds.old) names.old table.now) (C.sets conds.old) self.old.top.work self.old.refusals.live.0
-            (C.sets conds.new) (seen_hidden names.new self.new.sets) (length self.old.top.work) self.new.top.out) }
+            (C.sets conds.new) (seen_hidden names.new self.new.sets) self.new.top.out self.new.rest) }
         ensures out { OnOk result (PutsOut (stores (C.sets conds.old) names.old self.old.sets)
             (stores (C.sets conds.new) names.new self.new.sets) self.old.refusals.live.0 self.old.top.out self.new.top.out) }
         ensures unchanged { OnOk result (LooksUpNone (C.sets conds.old) names.old (macros_at (C.sets conds.old) names.old table.now) self.old

@@ -2,7 +2,7 @@ use Rattle.std.proofs.Common.{All, map, refl, sym, ap, subst, ◌∙◌}
 use Rattle.std.proofs.lemmas.List.Elements.{All-push}
 use Rattle.c11_macros.specs.Hidden.{failure_at}
 use Rattle.c11_macros.specs.Macros.{Form}
-use Rattle.c11_macros.specs.Substitution.{neither, parts, slots}
+use Rattle.c11_macros.specs.Substitution.{list_slots}
 use Rattle.sc_expand.proofs.AlikeGathering.{begun-alike}
 use Rattle.sc_expand.proofs.BeginningLemmas.{in_none, in_some, is_gathered, is_template}
 use Rattle.sc_expand.proofs.GatherSteps.{pushed-at, pushed-held, pushed-other, refused-alike, refused-ends, refused-held, refused-live, refused-other}
@@ -66,7 +66,7 @@ returns-in-None-clause-begun g c = on-ok c.refuse.result
       begins = λ x provenance d listed has formed list.
           let t = seen_hidden n h c.args.head in
           let none = in_none c.in_ok-made.made c.in-None.is c.in_ok-made.ensures.none in
-          refused (failure_at BadStringize t) ((λ i. slots t (seen_arguments n h c.args.raw.now) (parts (formed i) neither (list i))) ∙ none t refl)
+          refused (failure_at BadStringize t) ((λ i. list_slots t (seen_arguments n h c.args.raw.now) (formed i) (list i)) ∙ none t refl)
           (refused-live grows e held refuses x listed has) (refused-ends grows e held refuses x listed has);
       others = λ x listed lacks. refused-other grows e held refuses x listed lacks;
       work = refl;

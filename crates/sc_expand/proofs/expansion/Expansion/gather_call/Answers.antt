@@ -1,8 +1,8 @@
-use Rattle.std.proofs.Common.{◌≡◌, ℕ, Bool, List, All, Some, None, length, refl, sym, ap, subst, ◌∙◌}
+use Rattle.std.proofs.Common.{◌≡◌, ℕ, List, All, Some, None, length, refl, sym, ap, subst, ◌∙◌, is_some, Option}
 use Rattle.std.proofs.lemmas.List.Elements.{All-head, All-tail}
 use Rattle.std.specs.Option.{option_map}
 use Rattle.c11_macros.specs.Call.{arguments_for}
-use Rattle.c11_macros.specs.Macros.{function_like}
+use Rattle.c11_macros.specs.Macros.{Rest, function_like}
 use Rattle.sc_base.proofs.Growth.{Extends-refl}
 use Rattle.sc_base.specs.declared.id.Name.{Name}
 use Rattle.sc_expand.proofs.BeginningLemmas.{in_some}
@@ -82,8 +82,8 @@ returns-in-Some-clause-gathered g c = on-ok c.begin.result
     let form = c.args.form.now in
     let head : (k : ℕ) → IsHeldExpansion (stores s0 n e0.sets) k e0 → IsHeldToken (stores s0 n e0.sets) k c.args.head = λ k held. head-held (IsHeldToken (stores s0 n e0.sets) k) e0.top.work c.args.head held.top.work.held c.requires.head in
     let tokens : (k : ℕ) → IsHeldExpansion (stores s0 n e0.sets) k e0 → All (IsHeldToken (stores s0 n e0.sets) k) between = λ k held. All-tail (IsHeldToken (stores s0 n e0.sets) k) close between (left.own k held.top.work) in
-    let fits : (parameters : List (List ℕ)) (variadic : Bool) → seen_form n form ≡ function_like parameters variadic
-    → seen_fit n e0.sets (Some raw) ≡ arguments_for parameters variadic (parted (length parameters) 0 (seen_list n e0.sets between)) =
+    let fits : (parameters : List (List ℕ)) (variadic : Option Rest) → seen_form n form ≡ function_like parameters variadic
+    → seen_fit n e0.sets (Some raw) ≡ arguments_for parameters (is_some variadic) (parted (length parameters) 0 (seen_list n e0.sets between)) =
     λ parameters variadic is. sym (ap (option_map (λ made. seen_arguments n e0.sets made.items)) c.in-Some.is) ∙ c.in_ok-fit.ensures.is e0.sets parameters variadic is in
     let f = function-form (seen_form n form) c.requires.function in
     let hidden = in_some _ c.in_ok-fit.fit c.in-Some.raw c.in-Some.is (c.in_ok-fit.ensures.own e0.sets (λ k d h. (tokens files held k d h).held)) in
@@ -91,7 +91,7 @@ returns-in-Some-clause-gathered g c = on-ok c.begin.result
     let began = subst (HasBegun (stores s1 n e1.sets) (stores s2 n2 e2.sets) e1 e2 c.args.branch.now.cond.0 form c.args.items.now c.args.head close) c.deref.ensures.value begun in
     begun-gathered left files held form c.args.items.now c.args.head c.requires.branch c.requires.function (Some raw) fits n2 s2 e2 grows (record { work = began.work; below = began.below; out = began.out; rest = began.rest })
     (λ k held.
-    let own = arguments-held (stores s0 n e0.sets) k between raw f.parameters f.variadic (sym (fits f.parameters f.variadic f.is)) (tokens k held) hidden in
+    let own = arguments-held (stores s0 n e0.sets) k between raw f.parameters (is_some f.variadic) (sym (fits f.parameters f.variadic f.is)) (tokens k held) hidden in
     let grew = left-grows left k held in
     began.held k (left-held left k held) (token-Grows grew c.args.head (head k held)) (λ i d h j x below. token-Grows grew _ (own i d h j x below)))
     began.others began.alike raw refl (head files held).held (All-head (IsHeldToken (stores s0 n e0.sets) files) close between (left.own files held.top.work)).held hidden c.requires.form c.requires.items began)
@@ -108,8 +108,8 @@ returns-clause-gathered g c = on-ok c.refuse.result
     let e0 = c.args.self.now in
     let e1 = c.take_call.new.self in
     let left = c.in_ok-call.ensures.left in
-    let fits : (parameters : List (List ℕ)) (variadic : Bool) → seen_form n c.args.form.now ≡ function_like parameters variadic
-    → seen_fit n e0.sets None ≡ arguments_for parameters variadic (parted (length parameters) 0 (seen_list n e0.sets c.in_ok-call.call.between)) =
+    let fits : (parameters : List (List ℕ)) (variadic : Option Rest) → seen_form n c.args.form.now ≡ function_like parameters variadic
+    → seen_fit n e0.sets None ≡ arguments_for parameters (is_some variadic) (parted (length parameters) 0 (seen_list n e0.sets c.in_ok-call.call.between)) =
     λ parameters variadic is. sym (ap (option_map (λ made. seen_arguments n e0.sets made.items)) c.in-None.is) ∙ c.in_ok-fit.ensures.is e0.sets parameters variadic is in
     let grows : Grows (stores (g.C.Conditions.sets c.take_call.new.conds) n e1.sets) (stores s2 n e1.sets) = record { sets = c.refuse.ensures.keeps; names = Extends-refl n; hides = Extends-refl e1.sets } in
     let mid = left-held left files held in

@@ -5,9 +5,9 @@ use Rattle.c11_macros.specs.Expansion.{is_looked_up}
 use Rattle.sc_base.specs.declared.id.Cond.{Cond}
 use Rattle.sc_expand.proofs.PuttingOut.{pushed-some, some-Keeps}
 use Rattle.sc_expand.proofs.SeenLemmas.{AreHeld-Grows, IsHeldExpansion-Grows, IsTable-Grows, token-Grows, macros_at-Grows, seen_hidden-Grows}
-use Rattle.sc_expand.proofs.TakingTurns.{first-both, first-grew, first-item, first-own, first-ready, first-taken, first-token, put-ends, put-held, refused-out, step-Grows, take-turn, take-waits}
+use Rattle.sc_expand.proofs.TakingTurns.{first-both, first-grew, first-item, first-own, first-ready, first-taken, first-token, put-ends, put-held, refused-out, step-Grows, take-first, take-turn, take-waits}
 use Rattle.sc_expand.proofs.TakingSteps.{Ends}
-use Rattle.sc_expand.proofs.WaitingTaking.{first-of-all, put-out-alike, put-out-left, stays-later}
+use Rattle.sc_expand.proofs.WaitingTaking.{first-of-all, put-out-alike, put-out-keeps, put-out-left, stays-later}
 use Rattle.sc_expand.specs.Running.{KeepsLeft}
 use Rattle.sc_expand.proofs.UnchangedTaking.{first-undefined, stays-both, take-passes}
 use Rattle.sc_expand.specs.declared.expansion.Expansion.{Expansion}
@@ -136,6 +136,9 @@ returns g c =
             (take-turn known grows told next x (seen_at last (drop 1 now.top.work) x) (at last next x) listed ends);
         left = subst (λ hides. KeepsLeft (stores s0 n h) (stores s3 n2 hides) was next) (sym same_sets) (put-out-left before later was now next taken c.args.token held told.held told.taken told.lists put
             (λ x listed apart waits. take-waits known grows told next x listed apart waits));
+        keeps =
+            put-out-keeps {old = stores s0 n h} {st = st} {new = last} before later was now next taken c.args.token item told.held told.lists put c.requires.calls c.requires.first
+            (λ x listed apart waits. take-first known grows told next x listed apart waits);
         out = record {
           apart = λ x listed dead.
               subst (λ hides. seen_at (stores s3 n2 hides) next.top.out x ≡ seen_at (stores s0 n h) was.top.out x) (sym same_sets)
