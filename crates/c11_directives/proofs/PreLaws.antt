@@ -17,7 +17,7 @@ use Rattle.c11_expressions.specs.Lines as expressions
 use Rattle.c11_headers.specs.Headers.{Header, header_of, candidates}
 use Rattle.sc_model.specs.Outside.{Files, largest_file}
 use Rattle.sc_model.specs.Fault.{Fault, first_place, fault_at}
-use Rattle.c11_directives.specs.Pre.{Context, State, place_in, put_out, Closes, closed, refused, RefusedAt, operand_of, decision_of, Decides, if_defined, if_undefined, no_name, expression, with_text, with_macro, Defines, fresh, again, redefined, undefined, is_barrier, is_ignored, is_said, Changes, ignored, unknown, error, defines, defines_nothing, undefines, with_macros, Steps, text, null, stopped, carried_out, Carries, changed, not_changed, not_expanded, numbered, not_numbered, no_header, too_deep, included, deeper, back, Walks, done, line, line_stops, taken, taken_stops, passed, passed_stops, head_stops, WalksBranches, none_taken, last_taken, later_taken, later_passed, later_stops, File, search, inside, file_lines, Enters, too_large, unended, badly_nested, stopped_inside, walked, Includes, missing, entered, output_of, Pre}
+use Rattle.c11_directives.specs.Pre.{Context, State, place_in, put_out, Closes, closed, refused, RefusedAt, operand_of, decision_of, Decides, if_defined, if_undefined, no_name, expression, with_text, with_macro, Defines, fresh, again, redefined, undefined, is_barrier, is_ignored, is_said, Changes, ignored, unknown, error, defines, defines_nothing, undefines, is_once_file, state_behind, Steps, text, null, stopped, carried_out, Carries, changed, not_changed, not_expanded, numbered, not_numbered, no_header, too_deep, included, deeper, back, Walks, done, line, line_stops, taken, taken_stops, passed, passed_stops, head_stops, WalksBranches, none_taken, last_taken, later_taken, later_passed, later_stops, File, search, inside, file_lines, Enters, too_large, unended, badly_nested, stopped_inside, walked, Includes, missing, left_out, entered, output_of, Pre}
 use Rattle.sc_model.specs.Space.{Space}
 use Rattle.c11_macros.specs.Hidden.{Failure}
 use Rattle.c11_macros.specs.Macros.{Definition, Macros}
@@ -146,7 +146,7 @@ ReadAs macros (Ok d) r = DefinedAs macros d (macros d.name) r
 ReadAs macros (Err cause) r = r ≡ Err cause
 
 abbrev ChangedAs : Macros → Line → Directive → Result Macros Cause → Type 0
-ChangedAs macros l directive.Define r = ReadAs macros (reads (behind_name l)) r
+ChangedAs macros l directive.Define r = ReadAs macros (reads l.standard (behind_name l)) r
 ChangedAs macros l directive.Undef r = r ≡ undefined macros (operand_of l)
 ChangedAs macros l directive.Error r = r ≡ Err ErrorDirective
 ChangedAs macros l directive.Unknown r = r ≡ Err BadDirective
@@ -177,7 +177,7 @@ read-sole macros (Ok d) r e q f = defined-sole macros d (macros d.name) r e q f
 read-sole macros (Err cause) r e q f = e ∙ sym f
 
 changed-sole : (macros : Macros) (l : Line) (d : Directive) (r : Result Macros Cause) → ChangedAs macros l d r → Sole (ChangedAs macros l d) r
-changed-sole macros l directive.Define r e q f = read-sole macros (reads (behind_name l)) r e q f
+changed-sole macros l directive.Define r e q f = read-sole macros (reads l.standard (behind_name l)) r e q f
 changed-sole macros l (directive.Conditional c) r e q f = e.1 ∙ sym f.1
 changed-sole macros l directive.Include r e q f = e.1 ∙ sym f.1
 changed-sole macros l directive.Undef r e q f = e ∙ sym f
@@ -227,7 +227,7 @@ SaidAs x l s _ ts r = ⊥
 -- what a directive does that is a barrier
 abbrev CarriedAs : Context → Line → State → Directive → Bool → Result State Fault → Type 0
 CarriedAs x l s d true r = Then same (Says s.macros l) (SaidAs x l s d) r
-CarriedAs x l s d false r = Then (refusal s l) (ChangedAs s.macros l d) (λ macros q. q ≡ Ok (with_macros s macros)) r
+CarriedAs x l s d false r = Then (refusal s l) (ChangedAs s.macros l d) (λ macros q. q ≡ Ok (state_behind s l d macros)) r
 
 -- what a directive does that is a barrier or not
 abbrev Does : Context → Line → State → Directive → Bool → Result State Fault → Type 0
@@ -266,10 +266,15 @@ record Reads (x : Context) (file : File) (s : State) (r : Result State Fault) : 
   large : largest_file < length file.bytes → r ≡ Err (fault_at FileTooLarge (first_place file.name))
   fits : (largest_file < length file.bytes → ⊥) → Goes x file s r
 
+-- what is entered of a file, unless it is entered no more
+abbrev EntersUnless : Context → File → State → Bool → Result State Fault → Type 0
+EntersUnless x file s true r = r ≡ Ok s
+EntersUnless x file s false r = Enters x file s r
+
 -- what is entered of what a search finds
 abbrev Found : Context → Place → State → Option File → Result State Fault → Type 0
 Found x asked s None r = r ≡ Err (fault_at NotFound asked)
-Found x asked s (Some file) r = Enters x file s r
+Found x asked s (Some file) r = EntersUnless x file s (is_once_file s file.name) r
 
 -- what is walked of a section whose first group is taken or not
 abbrev Taken : Context → Group → Branches → State → Bool → Result State Fault → Type 0
@@ -367,11 +372,16 @@ module _ {x : Context} where
 
   includes-found : {names : List (List ℕ)} {asked : Place} {s : State} {r : Result State Fault} → Includes x names asked s r → Found x asked s (search x.files names) r
   includes-found (missing e) = rw e refl
-  includes-found (entered file e d) = rw e d
+  includes-found (left_out file e known) = rw (e, known) refl
+  includes-found (entered file e new d) = rw (e, new) d
 
   includes-with : {names : List (List ℕ)} {asked : Place} {s : State} {r : Result State Fault} {o : Option File} → search x.files names ≡ o
       → Includes x names asked s r → Found x asked s o r
   includes-with {asked = asked} {s = s} {r = r} e v = subst (λ o. Found x asked s o r) e (includes-found v)
+
+  includes-file : {names : List (List ℕ)} {asked : Place} {s : State} {r : Result State Fault} {b : Bool} (file : File) → search x.files names ≡ Some file
+      → is_once_file s file.name ≡ b → Includes x names asked s r → EntersUnless x file s b r
+  includes-file {s = s} {r = r} file e known v = subst (λ b. EntersUnless x file s b r) known (includes-with e v)
 
   mutual
     steps-sole : {l : Line} {s : State} {r : Result State Fault} → Steps x l s r → Sole (Steps x l s) r
@@ -423,7 +433,8 @@ module _ {x : Context} where
 
     includes-sole : {names : List (List ℕ)} {asked : Place} {s : State} {r : Result State Fault} → Includes x names asked s r → Sole (Includes x names asked s) r
     includes-sole (missing e) q v = sym (includes-with e v)
-    includes-sole (entered file e d) q v = enters-sole d q (includes-with e v)
+    includes-sole (left_out file e known) q v = sym (includes-file file e known v)
+    includes-sole (entered file e new d) q v = enters-sole d q (includes-file file e new v)
 
 pub pre-unique : {space : Space} {files : Files} {main config : List ℕ} {r s : Result (List Token) Fault} → Pre space files main config r → Pre space files main config s → r ≡ s
 pre-unique p q = p.is ∙ (ap output_of (includes-sole p.walked q.end q.walked) ∙ sym q.is)

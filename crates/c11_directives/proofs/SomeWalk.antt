@@ -12,7 +12,7 @@ use Rattle.c11_directives.specs.declared.directive.Directive.TheVariants as dire
 use Rattle.c11_directives.specs.declared.directive.Test.{Test}
 use Rattle.c11_directives.specs.Behind.{Says, as_it_stands, begins_with_header, behind_name, expanded, is_numbering}
 use Rattle.c11_directives.specs.Lines.{Group, Branches, Line, IsGroup, AreBranches, Tree, alternative, closing, conditional_in, empty, group_lines, branch_lines, conditional_of, hash_of, nested, otherwise, plain, section, test_in, test_of}
-use Rattle.c11_directives.specs.Pre.{Carries, Changes, Closes, Context, Decides, Defines, Enters, File, Includes, Pre, RefusedAt, State, Steps, Walks, WalksBranches, back, context_of, decided, deeper, file_lines, initial_state, inside, is_barrier, is_said, operand_of, output_of, place_in, put_out, search, undefined, with_macro, with_macros, with_text, without_macro}
+use Rattle.c11_directives.specs.Pre.{Carries, Changes, Closes, Context, Decides, Defines, Enters, File, Includes, Pre, RefusedAt, State, Steps, Walks, WalksBranches, back, context_of, decided, deeper, file_lines, initial_state, inside, is_barrier, is_said, operand_of, output_of, place_in, put_out, search, is_once_file, state_behind, undefined, with_macro, with_text, without_macro}
 use Rattle.c11_directives.specs.Pre as pre
 use Rattle.c11_directives.proofs.DecidesLaws.{some_decision}
 use Rattle.c11_directives.proofs.SomeNesting.{HaveHashes, lines-hashes, tree-some}
@@ -171,7 +171,7 @@ module _ (context : Context) (depth : ℕ) (enter : (file : File) (t : State) �
   changes-some : (line : Line) (s : State) (d : Directive) (hash : Token) → hash_of line ≡ Some hash → GoesOn depth s → (r : Result Macros Cause) → Changes s.macros line d r
       → ((macros : Macros) → r ≡ Ok macros → AreFinite macros) → HasEnd depth (Carries context line s d)
   changes-some line s d hash at goes (Ok macros) changes finite =
-      record { end = Ok (with_macros s macros); ends = pre.changed macros changes; well = record { finite = finite macros refl; deep = goes.deep } }
+      record { end = Ok (state_behind s line d macros); ends = pre.changed macros changes; well = record { finite = finite macros refl; deep = goes.deep } }
   changes-some line s d hash at goes (Err cause) changes finite =
       record { end = Err (fault_at cause (place_in s hash)); ends = pre.not_changed cause (fault_at cause (place_in s hash)) changes (refused-at s line hash cause at); well = tt }
 
@@ -184,7 +184,7 @@ module _ (context : Context) (depth : ℕ) (enter : (file : File) (t : State) �
   same-macros : {old : Macros} → AreFinite old → (macros : Macros) → accepted old ≡ Ok macros → AreFinite macros
   same-macros {old} finite macros e = let same : old ≡ macros = cc in subst AreFinite same finite
 
-  defining : (line : Line) (s : State) (hash : Token) → hash_of line ≡ Some hash → GoesOn depth s → (r : Result Defined Cause) → reads (behind_name line) ≡ r → HasEnd depth (Carries context line s directive.Define)
+  defining : (line : Line) (s : State) (hash : Token) → hash_of line ≡ Some hash → GoesOn depth s → (r : Result Defined Cause) → reads line.standard (behind_name line) ≡ r → HasEnd depth (Carries context line s directive.Define)
   defining line s hash at goes (Err cause) reads_as = changes-some line s directive.Define hash at goes (Err cause) (pre.defines_nothing cause reads_as) no-macros
   defining line s hash at goes (Ok d) reads_as =
       by (defines-some s.macros d goes.finite).0 (defines-some s.macros d goes.finite).1
@@ -221,9 +221,10 @@ module _ (context : Context) (depth : ℕ) (enter : (file : File) (t : State) �
     where
       by : (found : Option File) → search context.files names ≡ found → HasEnd (depth + 1) (Includes context names asked t)
       by None is = record { end = Err (fault_at NotFound asked); ends = pre.missing is; well = tt }
-      by (Some file) is =
-          let inner = enter file t goes below in
-          record { end = inner.end; ends = pre.entered file is inner.ends; well = inner.well }
+      by (Some file) is = elim (cases_Bool (is_once_file t file.name)) [
+        | inl known ↦ record { end = Ok t; ends = pre.left_out file is known; well = goes }
+        | inr new ↦ (let inner = enter file t goes below in record { end = inner.end; ends = pre.entered file is new inner.ends; well = inner.well })
+      ]
 
   including : (line : Line) (s : State) (hash : Token) → hash_of line ≡ Some hash → GoesOn depth s → (r : Result (List Token) Fault) → Says s.macros line r → HasEnd depth (Carries context line s directive.Include)
   including line s hash at goes (Err fault) says = record { end = Err fault; ends = pre.not_expanded fault refl says; well = tt }
@@ -261,7 +262,7 @@ module _ (context : Context) (depth : ℕ) (enter : (file : File) (t : State) �
   carries-some line s (directive.Conditional c) hash at barrier goes = absurd (true≢false (sym barrier))
   carries-some line s directive.Null hash at barrier goes = absurd (true≢false (sym barrier))
   carries-some line s directive.Include hash at barrier goes = let x = says-some s.macros goes.finite line in including line s hash at goes x.0 x.1
-  carries-some line s directive.Define hash at barrier goes = defining line s hash at goes (reads (behind_name line)) refl
+  carries-some line s directive.Define hash at barrier goes = defining line s hash at goes (reads line.standard (behind_name line)) refl
   carries-some line s directive.Undef hash at barrier goes = undefining line s hash at goes
   carries-some line s directive.Line hash at barrier goes = let x = says-some s.macros goes.finite line in numbering line s hash at goes x.0 x.1
   carries-some line s directive.Error hash at barrier goes = changes-some line s directive.Error hash at goes (Err ErrorDirective) pre.error no-macros
@@ -415,4 +416,4 @@ pre-some space files main config = by (search files (main ∷ [])) refl
     by (Some file) is =
         let start : GoesOn 0 (initial_state space main config) = record { finite = initial-finite space config; deep = refl } in
         let walk = enters-some (context_of space files) space.include_depth 0 file (initial_state space main config) start (omega arith) in
-        (output_of walk.end, record { end = walk.end; walked = pre.entered file is walk.ends; is = refl })
+        (output_of walk.end, record { end = walk.end; walked = pre.entered file is refl walk.ends; is = refl })

@@ -12,7 +12,7 @@ use Rattle.sc_model.specs.Bytes.{same_bytes}
 use Rattle.c11_tokens.specs.Lex.{is_newline}
 use Rattle.sc_model.specs.Token.{Place, Token, name_of}
 use Rattle.sc_model.specs.declared.standard.Standard.{Standard}
-use Rattle.sc_model.specs.declared.standard.Standard.TheVariants.{C11, C23}
+use Rattle.sc_model.specs.declared.standard.Standard.TheVariants.{C11, C23, Gnu11}
 
 -- names of directives, and what each is
 abbrev pub DirectiveNames : Type 0
@@ -46,6 +46,7 @@ c23_directive_names =
 abbrev pub directives_of : Standard → DirectiveNames
 directives_of C11 = c11_directive_names
 directives_of C23 = c23_directive_names
+directives_of Gnu11 = c11_directive_names
 
 abbrev pub directive_named : DirectiveNames → List ℕ → Directive
 directive_named [] word = directive.Unknown

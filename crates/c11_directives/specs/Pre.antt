@@ -1,5 +1,6 @@
 -- Preprocessing of one configuration (C11 6.10): the walk of a file's groups.
-use Rattle.std.specs.Prelude.{◌≡◌, ℕ, ◌<◌, ◌⊎◌, Bool, true, false, not, List, [], ◌∷◌, ◌++◌, ◌+◌, length, map, Option, Some, None, is_some, Result, Ok, Err, if◌then◌else◌}
+use Rattle.std.specs.Prelude.{◌≡◌, ℕ, ◌<◌, ◌⊎◌, Bool, true, false, not, List, [], ◌∷◌, ◌++◌, ◌+◌, codes, length, map, Option, Some, None, is_some, Result, Ok, Err, if◌then◌else◌}
+use Rattle.std.specs.List.{list_any}
 use Rattle.std.specs.Map.{update}
 use Rattle.std.specs.Option.{option_map}
 use Rattle.sc_model.specs.declared.cause.Cause.{Cause}
@@ -32,13 +33,14 @@ pub record Context : Type 0 where
   pub standard : Standard
 
 -- the macros that are defined, the text since the last barrier, what was put out, how deep the
--- files are nested, and the name of the innermost
+-- files are nested, the name of the innermost, and the names of those that are entered no more
 pub record State : Type 0 where
   pub macros : Macros
   pub run : List Token
   pub output : List Token
   pub depth : ℕ
   pub file : List ℕ
+  pub once : List (List ℕ)
 
 -- the place of a token
 abbrev pub place_in : State → Token → Place
@@ -122,7 +124,7 @@ is_barrier directive.Pragma = true
 is_barrier directive.Warning = true
 is_barrier directive.Unknown = true
 
--- the directive has no effect
+-- the directive changes no macro
 abbrev pub is_ignored : Directive → Bool
 is_ignored directive.Pragma = true
 is_ignored directive.Warning = true
@@ -133,13 +135,34 @@ pub data Changes (macros : Macros) (line : Line) : Directive → Result Macros C
   ignored : {d : Directive} → is_ignored d ≡ true → Changes macros line d (Ok macros)
   unknown : Changes macros line directive.Unknown (Err BadDirective)
   error : Changes macros line directive.Error (Err ErrorDirective)
-  defines : {r : Result Macros Cause} (d : Defined) → reads (behind_name line) ≡ Ok d → Defines macros d r → Changes macros line directive.Define r
-  defines_nothing : (cause : Cause) → reads (behind_name line) ≡ Err cause → Changes macros line directive.Define (Err cause)
+  defines : {r : Result Macros Cause} (d : Defined) → reads line.standard (behind_name line) ≡ Ok d → Defines macros d r → Changes macros line directive.Define r
+  defines_nothing : (cause : Cause) → reads line.standard (behind_name line) ≡ Err cause → Changes macros line directive.Define (Err cause)
   undefines : Changes macros line directive.Undef (undefined macros (operand_of line))
 
--- the state with these macros
-abbrev pub with_macros : State → Macros → State
-with_macros s macros = record s { macros = macros }
+-- a pragma asks that its file is entered no more
+abbrev pub names_once : Option (List ℕ) → Bool
+names_once None = false
+names_once (Some word) = same_bytes word (codes "once")
+
+abbrev pub is_once : Line → Bool
+is_once line = names_once (operand_of line)
+
+-- and the file in which a token stands
+abbrev pub with_file_of : List (List ℕ) → Option Token → List (List ℕ)
+with_file_of once None = once
+with_file_of once (Some t) = t.place.file ∷ once
+
+-- the files that are entered no more behind a directive
+abbrev pub once_behind : List (List ℕ) → Line → Directive → List (List ℕ)
+once_behind once line directive.Pragma = if is_once line then with_file_of once (hash_of line) else once
+once_behind once line _ = once
+
+abbrev pub is_once_file : State → List ℕ → Bool
+is_once_file s name = list_any (same_bytes name) s.once
+
+-- the state behind a directive that leaves these macros
+abbrev pub state_behind : State → Line → Directive → Macros → State
+state_behind s line d macros = record s { macros = macros; once = once_behind s.once line d }
 
 -- the directive is carried out by what it says behind its name
 abbrev pub is_said : Directive → Bool
@@ -194,7 +217,7 @@ mutual
   -- What a directive does that is a barrier, where the run before it was closed.
   pub data Carries (context : Context) : Line → State → Directive → Result State Fault → Type 0 where
     changed : {line : Line} {s : State} {d : Directive} (macros : Macros) → Changes s.macros line d (Ok macros)
-        → Carries context line s d (Ok (with_macros s macros))
+        → Carries context line s d (Ok (state_behind s line d macros))
     not_changed : {line : Line} {s : State} {d : Directive} (cause : Cause) (fault : Fault) → Changes s.macros line d (Err cause)
         → RefusedAt s line cause fault → Carries context line s d (Err fault)
     not_expanded : {line : Line} {s : State} {d : Directive} (fault : Fault) → is_said d ≡ true → Says s.macros line (Err fault)
@@ -258,11 +281,14 @@ mutual
         → Lexed file.bytes (Ok tokens) → Tree (file_lines context file tokens) (Ok group) → Walks context group (inside file s) (Ok t) → Closes t r
         → Enters context file s r
 
-  -- The file that is asked for at this place is searched for by these names, then entered.
+  -- The file that is asked for at this place is searched for by these names, then entered, unless
+  -- it is one that is entered no more.
   pub data Includes (context : Context) : List (List ℕ) → Place → State → Result State Fault → Type 0 where
     missing : {names : List (List ℕ)} {asked : Place} {s : State} → search context.files names ≡ None → Includes context names asked s (Err (fault_at NotFound asked))
+    left_out : {names : List (List ℕ)} {asked : Place} {s : State} (file : File) → search context.files names ≡ Some file → is_once_file s file.name ≡ true
+        → Includes context names asked s (Ok s)
     entered : {names : List (List ℕ)} {asked : Place} {s : State} {r : Result State Fault} (file : File) → search context.files names ≡ Some file
-        → Enters context file s r → Includes context names asked s r
+        → is_once_file s file.name ≡ false → Enters context file s r → Includes context names asked s r
 
 abbrev pub context_of : Space → Files → Context
 context_of space files = record {
@@ -273,7 +299,7 @@ context_of space files = record {
 }
 
 abbrev pub initial_state : Space → (main config : List ℕ) → State
-initial_state space main config = record { macros = initial_macros space config; run = []; output = []; depth = 0; file = main }
+initial_state space main config = record { macros = initial_macros space config; run = []; output = []; depth = 0; file = main; once = [] }
 
 abbrev pub output_of : Result State Fault → Result (List Token) Fault
 output_of (Ok s) = Ok s.output

@@ -3,7 +3,7 @@ use Rattle.std.specs.Prelude.{◌≡◌, ℕ, ◌<◌, true, false, List, [], �
 use Rattle.c11_directives.specs.declared.directive.Directive.TheVariants as directive
 use Rattle.c11_directives.specs.Behind.{Says}
 use Rattle.c11_directives.specs.Lines.{Branches, Group, Line, Tree, alternative, hash_of, otherwise, plain, section}
-use Rattle.c11_directives.specs.Pre.{Closes, Context, Decides, File, State, Steps, Walks, WalksBranches, context_of, decided, deeper, file_lines, initial_state, inside, place_in, search}
+use Rattle.c11_directives.specs.Pre.{Closes, Context, Decides, File, State, Steps, Walks, WalksBranches, context_of, decided, deeper, file_lines, initial_state, inside, is_once_file, place_in, search}
 use Rattle.c11_headers.specs.Headers.{Header, candidates, header_of}
 use Rattle.c11_tokens.specs.Lex.{Lexed}
 use Rattle.sc_model.specs.Outside.{Files, largest_file}
@@ -30,7 +30,8 @@ mutual
     itself : {line : Line} {s : State} → LineReaches context line s [] (at_line line s)
     in_file : {line : Line} {s : State} {chain : List Place} {k : Moment} (t : State) (ts : List Token) (header : Header) (hash : Token) (file : File)
         → line.directive ≡ Some directive.Include → Closes s (Ok t) → Says t.macros line (Ok ts) → header_of ts ≡ Ok header → t.depth < context.include_depth
-        → hash_of line ≡ Some hash → search context.files (candidates header t.file context.include) ≡ Some file → FileReaches context file (deeper t) chain k
+        → hash_of line ≡ Some hash → search context.files (candidates header t.file context.include) ≡ Some file → is_once_file t file.name ≡ false
+        → FileReaches context file (deeper t) chain k
         → LineReaches context line s (place_in t hash ∷ chain) k
 
   -- the walk of a group comes to the moment

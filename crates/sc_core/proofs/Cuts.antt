@@ -250,7 +250,7 @@ pub pre-cut : {space : Space} {files : Files} {main config : List ℕ} {r : Resu
     → Pre (cut_space space config) files main (first_config (cut_space space config)) r → Pre space files main config r
 pre-cut {space} {files} {main} {config} listed pre = record {
   end = pre.end;
-  walked = subst (λ (macros : Macros). Includes (context_of space files) (main ∷ []) (first_place main) (record { macros = macros; run = []; output = []; depth = 0; file = main }) pre.end)
+  walked = subst (λ (macros : Macros). Includes (context_of space files) (main ∷ []) (first_place main) (record { macros = macros; run = []; output = []; depth = 0; file = main; once = [] }) pre.end)
       (macros-cut space config listed) pre.walked;
   is = pre.is;
 }

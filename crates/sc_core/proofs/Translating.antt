@@ -1,7 +1,7 @@
 -- What ordinary translation gives is one answer.
 use Rattle.std.proofs.Common.{◌≡◌, ◌∙◌, ℕ, List, [], ◌∷◌, Option, Some, None, Result, Ok, Err, refl, sym, ap, subst}
 use Rattle.c11_directives.proofs.PreLaws.{pre-unique}
-use Rattle.c11_directives.specs.Pre.{Context, File, Includes, missing, entered, Pre, State, found_or, output_of, search}
+use Rattle.c11_directives.specs.Pre.{Context, File, Includes, missing, left_out, entered, Pre, State, found_or, output_of, search}
 use Rattle.c11_parsing.proofs.OneAnswer.{one_answer}
 use Rattle.c11_parsing.specs.LR.{LR}
 use Rattle.c11_parsing.specs.Trees.{Tree}
@@ -31,7 +31,8 @@ held-found name (Some bytes) file is = (bytes, refl)
 held-walked : {context : Context} {names : List (List ℕ)} {asked : Place} {s : State} {r : Result State Fault} (main : List ℕ) (t : State) → Includes context names asked s r → names ≡ main ∷ [] → r ≡ Ok t
     → (bytes : List ℕ) × (context.files main ≡ Some bytes)
 held-walked main t (missing absent) is ends = cc
-held-walked {context} main t (entered file found walks) is ends =
+held-walked {context} main t (left_out file found once) is ends = held-found main (context.files main) file (subst (λ names. search context.files names ≡ Some file) is found)
+held-walked {context} main t (entered file found new walks) is ends =
     held-found main (context.files main) file (subst (λ names. search context.files names ≡ Some file) is found)
 
 pub held-main : {space : Space} {files : Files} {main config : List ℕ} {ts : List Token} → Pre space files main config (Ok ts) → (bytes : List ℕ) × (files main ≡ Some bytes)

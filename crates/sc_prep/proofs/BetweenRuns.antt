@@ -3,7 +3,7 @@ use Rattle.std.proofs.Common.{◌≡◌, ◌&&◌, Bool, true, false, List, [], 
 use Rattle.std.specs.Prelude.{IfOk, ℕ, is_none}
 use Rattle.c11_directives.specs.declared.directive.Directive.{Directive}
 use Rattle.c11_directives.specs.Lines.{Line}
-use Rattle.c11_directives.specs.Pre.{Context, File, State, Carries, changed, not_changed, not_expanded, numbered, not_numbered, no_header, too_deep, included, Closes, closed, refused, Enters, too_large, unended, badly_nested, stopped_inside, walked, Includes, missing, entered, back, put_out}
+use Rattle.c11_directives.specs.Pre.{Context, File, State, Carries, changed, not_changed, not_expanded, numbered, not_numbered, no_header, too_deep, included, Closes, closed, refused, Enters, too_large, unended, badly_nested, stopped_inside, walked, Includes, missing, left_out, entered, back, put_out}
 use Rattle.c11_macros.specs.Results.{result_map}
 use Rattle.sc_model.specs.Fault.{Fault}
 use Rattle.sc_model.specs.Token.{Place, Token}
@@ -27,9 +27,10 @@ enters-run (badly_nested tokens place few lexed tree) = tt
 enters-run (stopped_inside tokens group fault few lexed tree walks) = tt
 enters-run (walked tokens group t few lexed tree walks closes) = closes-run closes
 
-includes-run : {x : Context} {names : List (List ℕ)} {asked : Place} {s : State} {r : Result State Fault} → Includes x names asked s r → LeavesNoRun r
-includes-run (missing none) = tt
-includes-run (entered f found enters) = enters-run enters
+includes-run : {x : Context} {names : List (List ℕ)} {asked : Place} {s : State} {r : Result State Fault} → Includes x names asked s r → s.run ≡ [] → LeavesNoRun r
+includes-run (missing none) ended = tt
+includes-run (left_out f found once) ended = ended
+includes-run (entered f found new enters) ended = enters-run enters
 
 back-run : (s : State) (r : Result State Fault) → LeavesNoRun r → LeavesNoRun (result_map (back s) r)
 back-run s (Ok t) is = is
@@ -44,7 +45,7 @@ carries-run (numbered ts says is) none = none
 carries-run (not_numbered ts fault says is at) none = tt
 carries-run (no_header ts cause fault says is at) none = tt
 carries-run (too_deep ts header fault says is deep at) none = tt
-carries-run {s = s} (included {r = r} ts header hash says is deep at does) none = back-run s r (includes-run does)
+carries-run {s = s} (included {r = r} ts header hash says is deep at does) none = back-run s r (includes-run does none)
 
 -- ---- the run of a machine
 

@@ -26,7 +26,9 @@ use Rattle.sc_prep.specs.Closes.{PutsOut, has_none, is_empty}
 use Rattle.sc_prep.specs.Machine.{Machine, acts, closing_run}
 use Rattle.sc_prep.specs.Printable.{AllPass, ArePlaced, ClosesPlain, IsHeldWalk, IsPlaced, any_token, is_plain}
 use Rattle.sc_prep.specs.Simulates.{Arrives, Closed, Owns, OwnsSection, Simulates, SimulatesOneOf, section_at}
+use Rattle.sc_prep.specs.declared.once.OnceFile.{OnceFile}
 use Rattle.sc_prep.specs.declared.walk.Section.{Section}
+use Rattle.sc_prep.specs.Once.{AreOnceHeld, OwnsOnce, once_at}
 use Rattle.sc_prep.specs.declared.walk.Walk.{Walk}
 use Rattle.sc_table.proofs.Growth.{IsTable-Extends, IsTable-Keeps, macros_at-Extends}
 use Rattle.sc_table.specs.Table.{IsTable, macros_at}
@@ -87,6 +89,7 @@ module _ {names more : List (List ℕ)} (grows : Extends names more) where
       };
       run = λ none. items-grown s w.gathered config count held.gathered ∙ simulates.run none;
       macros = λ none name. macros_at-Extends grows is config name ∙ simulates.macros none name;
+      once = simulates.once;
     }
 
 -- ---- of what a configuration has
@@ -278,6 +281,7 @@ module _ (files names more : List (List ℕ)) {old mid new : Sets} (keeps : Keep
       prepared = record { live = live-now ∙ live; output = output_is; fault = faults-now ∙ fault_is };
       run = run_is;
       macros = λ none_now name. ap (λ t. macros_at new more t c name) puts.table ∙ stored.macros (none-before m.fault fault none live none_now) name;
+      once = λ none_now name. ap (λ (o : Vec OnceFile Global). once_at new files o.items c name) puts.once ∙ stored.once (none-before m.fault fault none live none_now) name;
     }
 
     macros_are : m.fault ≡ None → macros_at old names w.table c ≡ m.state.macros
@@ -367,6 +371,7 @@ module _ (files names more : List (List ℕ)) {old mid new : Sets} (keeps : Keep
           acting = puts.acting.own;
           sections = subst (λ (v : Vec Section Global). All (OwnsSection new) v.items) (sym puts.sections) kept.sections;
           gathered = puts.gathered.own;
+          once = subst (λ (o : Vec OnceFile Global). OwnsOnce new o.items) (sym puts.once) kept.once;
           prepared = record {
             list = subst (All IsOwn) (sym puts.list) (All-append IsOwn w.prepared.list puts.added kept.prepared.list puts.put.own);
             faults = subst (All IsOwnFault) (sym puts.faults) (All-append IsOwnFault w.prepared.faults.items e.faults.items kept.prepared.faults (λ k d h. later.own _ (answer.faults_own k d h)));
@@ -388,6 +393,7 @@ module _ (files names more : List (List ℕ)) {old mid new : Sets} (keeps : Keep
             (All-append P w.prepared.list puts.added (list-grown grows (length files) w.prepared.list held.list) (puts.put.placed more (length files) placed_answer));
         passed = λ k d h. refl;
         faults = subst (All Q) (sym puts.faults) (All-append Q w.prepared.faults.items e.faults.items held.faults answer.faults_placed);
+        once = subst (λ (o : Vec OnceFile Global). AreOnceHeld (length files) o.items) (sym puts.once) held.once;
       }
 
   -- ---- what was put out is spelled on one line

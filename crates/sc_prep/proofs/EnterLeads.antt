@@ -1,9 +1,9 @@
 -- What a walk that enters a file leads to at each configuration.
-use Rattle.std.proofs.Common.{◌≡◌, ℕ, ◌<◌, ◌&&◌, Bool, true, false, List, [], ◌∷◌, All, map, reverse, length, Option, None, Some, Result, Ok, Err, refl, sym, ap, ◌∙◌, subst}
+use Rattle.std.proofs.Common.{◌≡◌, ℕ, ◌<◌, ◌&&◌, not, Bool, true, false, List, [], ◌∷◌, All, map, reverse, length, Option, None, Some, Result, Ok, Err, refl, sym, ap, ◌∙◌, subst}
 use Rattle.std.proofs.lemmas.Bool.{and_parts}
 use Rattle.std.specs.Prelude.{slice_get}
 use Rattle.c11_directives.specs.Lines.{lines_of}
-use Rattle.c11_directives.specs.Pre.{Context, State, File, Enters, back, file_lines, file_with}
+use Rattle.c11_directives.specs.Pre.{Context, State, File, Enters, back, file_lines, file_with, is_once_file}
 use Rattle.c11_macros.specs.Results.{result_map}
 use Rattle.sc_base.specs.declared.fault.Fault as base
 use Rattle.sc_base.specs.declared.id.Cond.{Cond}
@@ -31,6 +31,7 @@ use Rattle.sc_prep.specs.Contents.{Agrees, AreContents, AreHeldLines, AreLinesOf
 use Rattle.sc_prep.specs.Entering.{Begins, Leaves}
 use Rattle.sc_prep.specs.Includes.{EntersAt, enters}
 use Rattle.sc_prep.specs.Machine.{Machine, acts, arriving, start}
+use Rattle.sc_prep.specs.Once.{once_at}
 use Rattle.sc_prep.specs.Printable.{AllPass, IsHeldWalk, IsPlainState, any_token, is_plain}
 use Rattle.sc_prep.specs.Simulates as simulates
 use Rattle.sc_prep.specs.Simulates.{Arrives, Covers, IsAtTop, IsBetweenRuns, Leads, Owns, OwnsSection, PlainEach, Simulates, section_at}
@@ -69,7 +70,7 @@ has-refusal (refused bytes cause place all) = record { bytes = bytes; is = refl;
 -- ---- the configurations that enter the file
 
 module _ {old mid : Sets} {names : List (List ℕ)} {w : Walk} {within : Cond} (files : List (List ℕ)) (cond : Cond) (entry : Entry) (keeps : Keeps old mid)
-    (inside_is : Denotes mid within.0 (λ c. old.has cond.0 c && old.has w.acting.0 c)) (owns : Owns old w) (is : IsTable old names w.table) where
+    (inside_is : Denotes mid within.0 (λ c. (old.has cond.0 c && old.has w.acting.0 c) && not (once_at old files w.once.items c (text_at files entry.file.0)))) (owns : Owns old w) (is : IsTable old names w.table) where
   abbrev EntersFile : Context → List ℕ → Machine → Machine → Type 0
   EntersFile x config m n = EntersAt x (text_at files entry.file.0) entry.depth m (old.has cond.0 config) n
 
@@ -77,21 +78,36 @@ module _ {old mid : Sets} {names : List (List ℕ)} {w : Walk} {within : Cond} (
     pub stays : Simulates mid names files w config m
     stays = simulates-kept keeps w owns names files config m listed is at
 
-    within-is : mid.has within.0 config ≡ (old.has cond.0 config && acts m)
-    within-is = inside_is.at config (IsConfig-Keeps keeps listed) ∙ ap (λ b. old.has cond.0 config && b) at.acting
+    abbrev is-once : Bool
+    is-once = once_at old files w.once.items config (text_at files entry.file.0)
+
+    within-is : mid.has within.0 config ≡ ((old.has cond.0 config && acts m) && not is-once)
+    within-is = inside_is.at config (IsConfig-Keeps keeps listed) ∙ ap (λ b. (old.has cond.0 config && b) && not is-once) at.acting
+
+    parts-enter : mid.has within.0 config ≡ true → ((old.has cond.0 config && acts m) ≡ true) × (not is-once ≡ true)
+    parts-enter here = and_parts (old.has cond.0 config && acts m) (not is-once) (sym within-is ∙ here)
 
     pub both-enter : mid.has within.0 config ≡ true → (old.has cond.0 config ≡ true) × (acts m ≡ true)
-    both-enter here = and_parts (old.has cond.0 config) (acts m) (sym within-is ∙ here)
+    both-enter here = and_parts (old.has cond.0 config) (acts m) (parts-enter here).0
+
+    not-true : (b : Bool) → not b ≡ true → b ≡ false
+    not-true true e = sym e
+    not-true false e = refl
+
+    -- the file may be entered
+    pub enters-again : mid.has within.0 config ≡ true → is_once_file m.state (text_at files entry.file.0) ≡ false
+    enters-again here = sym (at.once (acts-unfaulty m (both-enter here).1) (text_at files entry.file.0)) ∙ not-true is-once (parts-enter here).1
 
     enters-not : (x : Context) → mid.has within.0 config ≡ false → EntersFile x config m m
-    enters-not x out = not-entered x (text_at files entry.file.0) entry.depth m (old.has cond.0 config) (acts m) refl (sym within-is ∙ out)
+    enters-not x out = not-entered x (text_at files entry.file.0) entry.depth m (old.has cond.0 config) (acts m) is-once refl
+        (λ acting. sym (at.once (acts-unfaulty m acting) (text_at files entry.file.0))) (sym within-is ∙ out)
 
     enters-file : (x : Context) (name bytes : List ℕ) → text_at files entry.file.0 ≡ name → x.files name ≡ Some bytes → (e : Result State Fault)
         → Enters x (file_with name bytes) (record m.state { depth = entry.depth }) e → mid.has within.0 config ≡ true → EntersFile x config m (arriving m (result_map (back m.state) e))
     enters-file x name bytes named there e walks here =
         let both = both-enter here in
         subst (λ b. EntersAt x (text_at files entry.file.0) entry.depth m b (arriving m (result_map (back m.state) e))) (sym both.0)
-        (enters (file_with name bytes) e both.1 (sym named) (ap x.files named ∙ there) walks)
+        (enters (file_with name bytes) e both.1 (sym named) (ap x.files named ∙ there) (enters-again here) walks)
 
   -- no configuration enters it
   pub leads-nowhere : (x : Context) → IsNever mid within.0 → Leads files names old w files names mid w IsBetweenRuns (EntersFile x)

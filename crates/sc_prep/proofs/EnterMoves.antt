@@ -1,8 +1,8 @@
 -- How a walk that enters a file simulates the machine of each configuration.
-use Rattle.std.proofs.Common.{◌≡◌, ℕ, ◌&&◌, ◌++◌, ◌∷◌, Bool, true, false, List, [], All, map, reverse, append-nil, if◌then◌else◌, Option, Some, None, Ok, Err, refl, sym, ap, ◌∙◌, subst}
+use Rattle.std.proofs.Common.{◌≡◌, ℕ, ◌&&◌, ◌++◌, ◌∷◌, not, Bool, true, false, List, [], All, map, reverse, append-nil, if◌then◌else◌, Option, Some, None, Ok, Err, refl, sym, ap, ◌∙◌, subst}
 use Rattle.std.specs.Option.{option_to_list}
 use Rattle.std.specs.Prelude.{is_none}
-use Rattle.c11_directives.specs.Pre.{Context, State, back}
+use Rattle.c11_directives.specs.Pre.{Context, State, back, is_once_file}
 use Rattle.std.proofs.lemmas.List.{map-append}
 use Rattle.sc_base.specs.declared.fault.Fault as base
 use Rattle.sc_base.specs.declared.id.Cond.{Cond}
@@ -17,7 +17,7 @@ use Rattle.sc_prep.proofs.Machine.{after}
 use Rattle.sc_prep.proofs.WalkMoves.{simulates-kept, sections-kept}
 use Rattle.sc_prep.specs.Closes.{RefusesEach, has_none, is_empty}
 use Rattle.sc_prep.specs.Entering.{Begins, Leaves}
-use Rattle.sc_prep.specs.Includes.{EntersAt, elsewhere, inert}
+use Rattle.sc_prep.specs.Includes.{EntersAt, elsewhere, inert, left_out}
 use Rattle.sc_prep.specs.Machine.{Machine, acts, arriving, start}
 use Rattle.sc_prep.specs.Simulates.{IsBetweenRuns, Owns, OwnsSection, Simulates, section_at}
 use Rattle.sc_prep.specs.declared.entering.Around.{Around}
@@ -58,6 +58,7 @@ module _ (s : Sets) (names files : List (List ℕ)) (w next : Walk) (within : Co
     prepared = record { live = at.prepared.live; output = at.prepared.output; fault = at.prepared.fault };
     run = λ none. refl;
     macros = at.macros;
+    once = at.once;
   })
 
   pub begins-start : s.has within.0 config ≡ true → acts m ≡ true → IsBetweenRuns m → (depth : ℕ) (name : List ℕ) → Simulates s names files next config (start (entering depth name m.state))
@@ -70,6 +71,7 @@ module _ (s : Sets) (names files : List (List ℕ)) (w next : Walk) (within : Co
         prepared = record { live = at.prepared.live ∙ ap is_none none; output = λ _. at.prepared.output none; fault = at.prepared.fault ∙ ap option_to_list none };
         run = λ _. sym (between acting);
         macros = λ _. at.macros none;
+        once = λ _. at.once none;
       })
 
 -- behind the last line of the file
@@ -98,6 +100,7 @@ module _ {old new : Sets} (keeps : Keeps old new) (names files : List (List ℕ)
       prepared = record { live = kept.prepared.live; output = kept.prepared.output; fault = kept.prepared.fault };
       run = gathered;
       macros = kept.macros;
+      once = kept.once;
     })
 
     -- or is refused in the file
@@ -113,6 +116,7 @@ module _ {old new : Sets} (keeps : Keeps old new) (names files : List (List ℕ)
       };
       run = λ none. cc;
       macros = λ none. cc;
+      once = λ none. cc;
     })
 
 -- ---- a fault of some configurations
@@ -166,6 +170,7 @@ module _ {old new : Sets} (keeps : Keeps old new) (names files : List (List ℕ)
     };
     run = refused-walk.run;
     macros = refused-walk.macros;
+    once = refused-walk.once;
   })
 
   pub refused-here : IsCond old fault.cond.0 → old.has fault.cond.0 config ≡ true → m.fault ≡ None → Simulates new names files next config (record m { fault = Some (seen_fault files fault) })
@@ -180,15 +185,19 @@ module _ {old new : Sets} (keeps : Keeps old new) (names files : List (List ℕ)
     };
     run = λ absurd_. cc;
     macros = λ absurd_. cc;
+    once = λ absurd_. cc;
   })
 
 -- ---- what entering comes to
 
 module _ (x : Context) (name : List ℕ) (depth : ℕ) (m : Machine) where
-  -- a configuration that is not among those that enter, or that is refused or takes no line
-  pub not-entered : (has acting : Bool) → acts m ≡ acting → (has && acting) ≡ false → EntersAt x name depth m has m
-  not-entered true acting e none = inert (e ∙ none)
-  not-entered false acting e none = elsewhere
+  -- a configuration that is not among those that enter, that is refused or takes no line, or that
+  -- enters the file no more
+  pub not-entered : (has acting once : Bool) → acts m ≡ acting → (acts m ≡ true → is_once_file m.state name ≡ once) → ((has && acting) && not once) ≡ false → EntersAt x name depth m has m
+  not-entered false acting once e is none = elsewhere
+  not-entered true false once e is none = inert e
+  not-entered true true true e is none = left_out e (is e)
+  not-entered true true false e is none = cc
 
   -- the machine that is refused
   pub refused-at : (fault : Fault) → acts m ≡ true → record m { fault = Some fault } ≡ arriving m (Err fault)

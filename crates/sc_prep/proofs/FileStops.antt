@@ -1,6 +1,6 @@
 -- To which moments a machine comes behind other lines, in a file that it includes, and in one that
 -- it enters.
-use Rattle.std.proofs.Common.{◌≡◌, ℕ, ◌+◌, ◌<◌, ◌&&◌, Bool, true, false, List, [], ◌∷◌, ◌++◌, length, map, take, Some, Result, Ok, Err, drop-cons, if◌then◌else◌, refl, sym, ap, ◌∙◌, subst}
+use Rattle.std.proofs.Common.{◌≡◌, ℕ, ◌+◌, ◌<◌, ◌&&◌, not, Bool, true, false, List, [], ◌∷◌, ◌++◌, length, map, take, Some, Result, Ok, Err, drop-cons, if◌then◌else◌, refl, sym, ap, ◌∙◌, subst}
 use Rattle.std.proofs.lemmas.List.{take-append-drop}
 use Rattle.std.proofs.lemmas.Option.{same_Some}
 use Rattle.std.specs.Prelude.{slice_get, unwrap_or}
@@ -9,7 +9,7 @@ use Rattle.c11_directives.specs.declared.directive.Directive.{Directive}
 use Rattle.c11_directives.specs.declared.directive.Directive.TheVariants as directive
 use Rattle.c11_directives.specs.Footprints.{DirectiveHas, MomentsHave, NameHas, SourceFootprint, Spot, Used, of_directive, of_run}
 use Rattle.c11_directives.specs.Lines.{Line, hash_of, lines_of}
-use Rattle.c11_directives.specs.Pre.{Closes, Context, File, State, closed, deeper, file_lines, file_with, is_barrier, is_said, put_out, search}
+use Rattle.c11_directives.specs.Pre.{Closes, Context, File, State, closed, deeper, file_lines, file_with, is_barrier, is_said, put_out, search, is_once_file}
 use Rattle.c11_directives.specs.Reaches.{FileReaches, Moment, at_line, in_file, itself}
 use Rattle.c11_headers.specs.Headers.{candidates}
 use Rattle.sc_base.specs.declared.id.Cond.{Cond}
@@ -24,7 +24,7 @@ use Rattle.sc_model.specs.Token.{Place, Token}
 use Rattle.sc_model.specs.declared.standard.Standard.{Standard}
 use Rattle.sc_prep.proofs.BetweenRuns.{refused-acts}
 use Rattle.sc_prep.proofs.ComesFrom.{comes-entered, comes-inert}
-use Rattle.sc_prep.proofs.EnterLeads.{HasLines, both-enter, stays}
+use Rattle.sc_prep.proofs.EnterLeads.{HasLines, both-enter, stays, enters-again}
 use Rattle.sc_prep.proofs.EnterMoves.{begins-idle, begins-start, entering, idle}
 use Rattle.sc_prep.proofs.Going.{Stage, Staged, came, searched, waits}
 use Rattle.sc_prep.proofs.Machine.{barrier-plain, runs-more, runs-none, said-barrier}
@@ -35,6 +35,7 @@ use Rattle.sc_prep.specs.declared.entry.Entry.{Entry}
 use Rattle.sc_prep.specs.declared.walk.Walk.{Walk}
 use Rattle.sc_prep.specs.Entering.{Begins}
 use Rattle.sc_prep.specs.Footprints.{Comes, ComesAt, ComesIn, ComesInside, ComesOver, does, here, later, within}
+use Rattle.sc_prep.specs.Once.{once_at}
 use Rattle.sc_prep.specs.Machine.{Machine, Runs, RunExpands, acts, closing_run, start}
 use Rattle.sc_prep.specs.Simulates as simulates
 use Rattle.sc_prep.specs.Simulates.{Closed, IsAtTop, IsBetweenRuns, Leads, Owns, Simulates}
@@ -104,11 +105,11 @@ comes-waiting {x} {l} {files} {depth} {m} {k} {chain = chain} {g} file hash is h
     let text : text_at files file.0 ≡ f.name = ap (λ (i : FileId). text_at files i.0) (sym one) ∙ ap (λ o. unwrap_or o []) named in
     let bytes : inside.file.bytes ≡ f.bytes = same_Some inside.file.bytes f.bytes (sym inside.there ∙ (ap x.files text ∙ searched x.files (candidates header k.state.file x.include) f searching)) in
     let same : inside.file ≡ f = ap (λ name. file_with name inside.file.bytes) (inside.named ∙ text) ∙ ap (file_with f.name) bytes in
-    let Rest : State → Type 0 = λ s. Says s.macros l (Ok ts) × (s.depth < x.include_depth) × (search x.files (candidates header s.file x.include) ≡ Some f) × FileReaches x f (deeper s) chain g in
+    let Rest : State → Type 0 = λ s. Says s.macros l (Ok ts) × (s.depth < x.include_depth) × (search x.files (candidates header s.file x.include) ≡ Some f) × (is_once_file s f.name ≡ false) × FileReaches x f (deeper s) chain g in
     let reaches : FileReaches x f (deeper k.state) chain g =
     subst (λ (h : File). FileReaches x h (deeper k.state) chain g) same (subst (λ d. FileReaches x inside.file (record k.state { depth = d + 1 }) chain g) (sym deep) inside.reaches) in
-    let at = subst Rest c.is (says, shallow, searching, reaches) in
-    does c.acting (barrier-plain l directive.Include is refl) (in_file c.state ts header hash f is c.closes at.0 header_is at.1 hashed at.2 at.3)
+    let at = subst Rest c.is (says, shallow, searching, ap (is_once_file k.state) (sym text) ∙ inside.again, reaches) in
+    does c.acting (barrier-plain l directive.Include is refl) (in_file c.state ts header hash f is c.closes at.0 header_is at.1 hashed at.2 at.3 at.4)
 
 pub comes-included : {x : Context} {l : Line} {files : List (List ℕ)} {depth : ℕ} {m n : Machine} {left rest : List FileId} {chain : List Place} {g : Moment} (file : FileId) (hash : Token)
     → l.directive ≡ Some directive.Include → hash_of l ≡ Some hash → Staged x l files depth m left n → left ≡ file ∷ rest → ComesInside x (text_at files file.0) (depth + 1) n chain g
@@ -119,7 +120,7 @@ comes-included {m = m} file hash is hashed staged left_is inside =
 -- ---- a file that is entered
 
 module _ {standard : Standard} {old mid : Sets} {names : List (List ℕ)} {w begun : Walk} {inside : Cond} {around : Around} (files : List (List ℕ)) (cond : Cond) (entry : Entry) (keeps : Keeps old mid)
-    (inside_is : Denotes mid inside.0 (λ c. old.has cond.0 c && old.has w.acting.0 c)) (owns : Owns old w) (is : IsTable old names w.table) (begins : Begins w inside begun around)
+    (inside_is : Denotes mid inside.0 (λ c. (old.has cond.0 c && old.has w.acting.0 c) && not (once_at old files w.once.items c (text_at files entry.file.0)))) (owns : Owns old w) (is : IsTable old names w.table) (begins : Begins w inside begun around)
     (x : Context) (by_standard : x.standard ≡ standard) (lines : FileLines) (named : slice_get files entry.file.0 ≡ Some (text_at files entry.file.0))
     (has : HasLines standard names files (text_at files entry.file.0) (x.files (text_at files entry.file.0)) lines) where
   abbrev file : File
@@ -148,6 +149,7 @@ module _ {standard : Standard} {old mid : Sets} {names : List (List ℕ)} {w beg
                   file = file;
                   named = refl;
                   there = has.is;
+                  again = enters-again files cond entry keeps inside_is owns is config m listed at enters;
                   reaches = comes-entered x file (record m.state { depth = entry.depth }) has.are.lexemes has.are.group has.are.few has.are.lexed lines-are has.are.tree comes;
                 })
                 (comes (start first) begun_at (simulates.begins first refl (record { name = named; deep = refl }))),

@@ -53,7 +53,7 @@ module _ (names : List (List ℕ)) (file : FileId) where
     file-placed files there held = λ k d h. record { held = held k d h; file = file-in (λ f. f.0 < files) there k d h }
 
 -- all that stands in files of the table can be shown
-pub all-shown : (s : Sets) (names files : List (List ℕ)) (p : Prepared) → OwnsList s p → AreHeld names (length files) any_token [] p → AllPass (is_plain names) p.list → AreApart s p.faults.items
+pub all-shown : (s : Sets) (names files : List (List ℕ)) (p : Prepared) → OwnsList s p → AreHeld names (length files) any_token [] [] p → AllPass (is_plain names) p.list → AreApart s p.faults.items
     → ArePlainPaths files → CanBeShown s names files p
 all-shown s names files p owns held plain apart paths = record {
   list = λ k d h. record { own = owns.list k d h; held = (held.list k d h).held; file = (held.list k d h).file; plain = plain k d h };

@@ -7,7 +7,7 @@ use Rattle.std.specs.Prelude.{slice_get, unwrap_or}
 use Rattle.c11_directives.specs.Behind.{Says}
 use Rattle.c11_directives.specs.declared.directive.Directive.TheVariants as directive
 use Rattle.c11_directives.specs.Lines.{Line, hash_of, line_of}
-use Rattle.c11_directives.specs.Pre.{Context, State, File, Enters, back, deeper, entered, file_with, found_or, included, put_out, search}
+use Rattle.c11_directives.specs.Pre.{Context, State, File, Enters, back, deeper, entered, file_with, found_or, included, put_out, search, is_once_file, left_out}
 use Rattle.c11_headers.specs.Headers.{Header, candidates, header_of}
 use Rattle.c11_macros.specs.Results.{result_map}
 use Rattle.sc_base.proofs.Growth.{Extends-keeps, Extends-trans}
@@ -166,6 +166,9 @@ finds-staged {x} {l} {files} depth m k {left} {n} deep closed finds = record {
   stage = subst (λ (k : Machine). Stage x l files depth k left n) closed.is (finds-stage depth k deep finds);
 }
 
+arriving-itself : (k : Machine) → acts k ≡ true → arriving k (Ok k.state) ≡ k
+arriving-itself k acting = ap (λ b. record k { state = if b then k.state else k.state }) acting
+
 module _ {x : Context} {l : Line} {files : List (List ℕ)} {depth : ℕ} (k : Machine) where
   -- what stays where the configuration doesn't enter
   stays-out : {left rest : List FileId} {n : Machine} (file : FileId) (has : Bool) → Stage x l files depth k left n → left ≡ (if has then file ∷ rest else rest) → acts n ≡ false
@@ -175,9 +178,9 @@ module _ {x : Context} {l : Line} {files : List (List ℕ)} {depth : ℕ} (k : M
   stays-out file true (came e carried) is inactive = absurd (cc)
 
   goes-in : {left rest : List FileId} {n : Machine} (file : FileId) (f : File) (e : Result State Fault) → Stage x l files depth k left n → left ≡ file ∷ rest → acts n ≡ true
-      → f.name ≡ text_at files file.0 → x.files (text_at files file.0) ≡ Some f.bytes → Enters x f (record n.state { depth = depth + 1 }) e
+      → f.name ≡ text_at files file.0 → x.files (text_at files file.0) ≡ Some f.bytes → is_once_file n.state (text_at files file.0) ≡ false → Enters x f (record n.state { depth = depth + 1 }) e
       → Stage x l files depth k rest (arriving n (result_map (back n.state) e))
-  goes-in {rest = rest} file f e (waits other ts header hash g acting says names deep shallow hashed searching named) is acting_n name_is there walks =
+  goes-in {rest = rest} file f e (waits other ts header hash g acting says names deep shallow hashed searching named) is acting_n name_is there again walks =
       let ends : [] ≡ rest = cc in
       let one : other ≡ file = cc in
       let text : text_at files file.0 ≡ g.name = ap (λ (i : FileId). text_at files i.0) (sym one) ∙ ap (λ o. unwrap_or o []) named in
@@ -185,15 +188,29 @@ module _ {x : Context} {l : Line} {files : List (List ℕ)} {depth : ℕ} (k : M
       let same : f ≡ g = ap (λ n. file_with n f.bytes) (name_is ∙ text) ∙ ap (file_with g.name) bytes in
       let inside : Enters x f (deeper k.state) e = subst (λ d. Enters x f (record k.state { depth = d + 1 }) e) (sym deep) walks in
       subst (λ ls. Stage x l files depth k ls (arriving k (result_map (back k.state) e))) ends
-      (came (result_map (back k.state) e) (λ here. included ts header hash says names shallow hashed (entered g searching (subst (λ (h : File). Enters x h (deeper k.state) e) same inside))))
-  goes-in file f e (came d carried) is acting_n name_is there walks = absurd (cc)
+      (came (result_map (back k.state) e) (λ here. included ts header hash says names shallow hashed
+      (entered g searching (ap (is_once_file k.state) (sym text) ∙ again) (subst (λ (h : File). Enters x h (deeper k.state) e) same inside))))
+  goes-in file f e (came d carried) is acting_n name_is there again walks = absurd (cc)
+
+  -- the file is one that is entered no more
+  passes-by : {left rest : List FileId} {n : Machine} (file : FileId) → Stage x l files depth k left n → left ≡ file ∷ rest → acts n ≡ true → is_once_file n.state (text_at files file.0) ≡ true
+      → Stage x l files depth k rest n
+  passes-by {rest = rest} file (waits other ts header hash g acting says names deep shallow hashed searching named) is acting_n once =
+      let ends : [] ≡ rest = cc in
+      let one : other ≡ file = cc in
+      let text : text_at files file.0 ≡ g.name = ap (λ (i : FileId). text_at files i.0) (sym one) ∙ ap (λ o. unwrap_or o []) named in
+      subst (λ ls. Stage x l files depth k ls k) ends
+      (subst (Stage x l files depth k []) (arriving-itself k acting)
+      (came (Ok k.state) (λ here. included ts header hash says names shallow hashed (left_out g searching (ap (is_once_file k.state) (sym text) ∙ once)))))
+  passes-by file (came d carried) is acting_n once = absurd (cc)
 
   -- a file of the line was entered
   pub stage-then : {left rest : List FileId} {n o : Machine} {has : Bool} (file : FileId) → Stage x l files depth k left n → left ≡ (if has then file ∷ rest else rest)
       → EntersAt x (text_at files file.0) (depth + 1) n has o → Stage x l files depth k rest o
   stage-then {n = n} file stage is includes.elsewhere = subst (λ ls. Stage x l files depth k ls n) is stage
   stage-then file stage is (includes.inert {has} inactive) = stays-out file has stage is inactive
-  stage-then file stage is (includes.enters f e acting name_is there walks) = goes-in file f e stage is acting name_is there walks
+  stage-then file stage is (includes.left_out acting once) = passes-by file stage is acting once
+  stage-then file stage is (includes.enters f e acting name_is there again walks) = goes-in file f e stage is acting name_is there again walks
 
   pub stage-later : {more : List (List ℕ)} {left : List FileId} {n : Machine} → Extends files more → Stage x l files depth k left n → Stage x l more depth k left n
   stage-later grows (waits file ts header hash f acting says names deep shallow hashed searching named) =

@@ -20,11 +20,12 @@ refused-held names files test w next fault refused there held =
       list = held.list;
       passed = held.passed;
       faults = subst (All P) (sym refused.faults) (All-push P w.prepared.faults.items fault held.faults there);
+      once = held.once;
     })
 
 -- a line that is gathered
 pub gathered-held : (names : List (List ℕ)) (files : ℕ) (test : Token → Bool) (w : Walk) (line : List Token) → All (IsPlaced names files) line
-    → IsHeldWalk names files test w → AreHeld names files test (w.gathered ++ under w.acting line) w.prepared
+    → IsHeldWalk names files test w → AreHeld names files test (w.gathered ++ under w.acting line) w.once.items w.prepared
 gathered-held names files test w line all held =
     let P : Cond × Token → Type 0 = λ item. IsPlaced names files item.1 in
     record {
@@ -32,4 +33,5 @@ gathered-held names files test w line all held =
       list = held.list;
       passed = held.passed;
       faults = held.faults;
+      once = held.once;
     }

@@ -6,7 +6,7 @@ use Rattle.c11_directives.specs.declared.directive.Conditional.{Conditional}
 use Rattle.c11_directives.specs.declared.directive.Conditional.TheVariants.{Opening, Alternative, Else, Endif}
 use Rattle.c11_directives.specs.declared.directive.Directive.{Directive}
 use Rattle.c11_directives.specs.Lines.{Line, conditional_of}
-use Rattle.c11_directives.specs.Pre.{Context, State, Carries, changed, not_changed, not_expanded, numbered, not_numbered, no_header, too_deep, included, back, is_barrier, put_out, with_macros, with_text}
+use Rattle.c11_directives.specs.Pre.{Context, State, Carries, changed, not_changed, not_expanded, numbered, not_numbered, no_header, too_deep, included, back, is_barrier, put_out, state_behind, with_text}
 use Rattle.c11_macros.specs.Macros.{Macros}
 use Rattle.c11_macros.specs.Results.{result_map}
 use Rattle.sc_model.specs.declared.cause.Cause.{Cause}
@@ -57,16 +57,16 @@ closing-stays : (m : Machine) (r : Result (List Token) Fault) → whereabouts (c
 closing-stays m (Ok output) = either-stays m.state (put_out m.state output) (acts m) refl
 closing-stays m (Err fault) = refl
 
-changing-stays : (m : Machine) (l : Line) (r : Result Macros Cause) → whereabouts (changing m l r).state ≡ whereabouts m.state
-changing-stays m l (Ok macros) = either-stays m.state (with_macros m.state macros) (acts m) refl
-changing-stays m l (Err cause) = refl
+changing-stays : (m : Machine) (l : Line) (d : Directive) (r : Result Macros Cause) → whereabouts (changing m l d r).state ≡ whereabouts m.state
+changing-stays m l d (Ok macros) = either-stays m.state (state_behind m.state l d macros) (acts m) refl
+changing-stays m l d (Err cause) = refl
 
 plain-stays : (m : Machine) (l : Line) (d : Option Directive) → whereabouts (plain_by m l d).state ≡ whereabouts m.state
 plain-stays m l None = either-stays m.state (with_text m.state l) (acts m) refl
 plain-stays m l (Some d) = by (is_barrier d)
   where
-    by : (b : Bool) → whereabouts (if b then changing m l (changed_by m.state.macros l d) else m).state ≡ whereabouts m.state
-    by true = changing-stays m l (changed_by m.state.macros l d)
+    by : (b : Bool) → whereabouts (if b then changing m l d (changed_by m.state.macros l d) else m).state ≡ whereabouts m.state
+    by true = changing-stays m l d (changed_by m.state.macros l d)
     by false = refl
 
 opened_as-stays : (m : Machine) (r : Result Bool Fault) → whereabouts (opened_as m r).state ≡ whereabouts m.state

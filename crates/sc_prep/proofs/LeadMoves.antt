@@ -62,9 +62,9 @@ module _ {standard : Standard} {old new : Sets} {names files : List (List ℕ)} 
       let kept = owns-kept keeps w ready.owns in
       subst (λ (v : Walk). IsReady standard new names files holds v contents) (sym leaves.is)
       (subst (λ (a : Around). IsReady standard new names files holds (record w { group = a.group; acting = next.acting; sections = a.sections; gathered = a.gathered }) contents) (sym begins.around_is) (record {
-        owns = record { group = back.group; acting = leaves.acting.own; sections = back.sections; gathered = back.gathered; prepared = kept.prepared };
+        owns = record { group = back.group; acting = leaves.acting.own; sections = back.sections; gathered = back.gathered; once = kept.once; prepared = kept.prepared };
         table = IsTable-Keeps keeps ready.table;
-        held = record { gathered = held.gathered; list = ready.held.list; passed = ready.held.passed; faults = ready.held.faults };
+        held = record { gathered = held.gathered; list = ready.held.list; passed = ready.held.passed; faults = ready.held.faults; once = ready.held.once };
         read = ready.read;
       }))
 
@@ -79,6 +79,7 @@ module _ {standard : Standard} {old new : Sets} {names files : List (List ℕ)} 
           acting = refuses.acting.own;
           sections = kept.sections;
           gathered = kept.gathered;
+          once = kept.once;
           prepared = record {
             list = kept.prepared.list;
             faults = subst (All F) (sym refuses.faults) (All-push F w.prepared.faults.items fault kept.prepared.faults (keeps.own fault.cond.0 own));
@@ -98,10 +99,11 @@ ready-begun {standard} {s} {names} {files} {holds} {w} {next} {contents} begins 
     acting = own;
     sections = subst (All (OwnsSection s)) (sym begins.sections) (All-nil (OwnsSection s));
     gathered = All-nil (λ item. IsCond s item.0.0);
+    once = ready.owns.once;
     prepared = ready.owns.prepared;
   };
   table = ready.table;
-  held = record { gathered = All-nil (λ item. IsPlaced names (length files) item.1); list = ready.held.list; passed = ready.held.passed; faults = ready.held.faults };
+  held = record { gathered = All-nil (λ item. IsPlaced names (length files) item.1); list = ready.held.list; passed = ready.held.passed; faults = ready.held.faults; once = ready.held.once };
   read = ready.read;
 })
 

@@ -34,6 +34,8 @@ pub mod NameStops
 pub mod NamedFiles
 pub mod NumberMoves
 pub mod PartFootprints
+pub mod OnceLemmas
+pub mod OnceMoves
 pub mod Passing
 pub mod Plain
 pub mod PlainRuns

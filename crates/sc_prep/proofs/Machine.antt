@@ -13,7 +13,7 @@ use Rattle.c11_directives.specs.declared.directive.Directive.TheVariants as dire
 use Rattle.c11_directives.specs.Behind.{behind_name}
 use Rattle.c11_directives.specs.Lines.{Line, line_of, hash_of, conditional_in, conditional_of, Group, Branches, empty, plain, section, closing, otherwise, alternative, group_lines, branch_lines, IsGroup, AreBranches, Opens}
 use Rattle.sc_model.specs.Fault.{Fault, first_place}
-use Rattle.c11_directives.specs.Pre.{Context, State, place_in, with_text, put_out, closed, refused, RefusedAt, Decides, with_macro, Defines, fresh, again, redefined, is_barrier, is_said, Changes, ignored, unknown, error, defines, defines_nothing, undefines, with_macros, Steps, text, null, stopped, carried_out, Carries, changed, not_changed, Walks, done, line, line_stops, taken, taken_stops, passed, passed_stops, head_stops, WalksBranches, none_taken, last_taken, later_taken, later_passed, later_stops}
+use Rattle.c11_directives.specs.Pre.{Context, State, place_in, with_text, put_out, closed, refused, RefusedAt, Decides, with_macro, Defines, fresh, again, redefined, is_barrier, is_said, Changes, ignored, unknown, error, defines, defines_nothing, undefines, state_behind, Steps, text, null, stopped, carried_out, Carries, changed, not_changed, Walks, done, line, line_stops, taken, taken_stops, passed, passed_stops, head_stops, WalksBranches, none_taken, last_taken, later_taken, later_passed, later_stops}
 use Rattle.sc_model.specs.Token.{Token}
 use Rattle.sc_model.specs.declared.standard.Standard.{Standard}
 use Rattle.c11_macros.specs.Defines.{Defined, reads}
@@ -162,20 +162,20 @@ inert_refusing m l cause e = ap (λ b. record m { fault = if b then Some (refusa
 pub inert_acting : (m : Machine) (next : State → State) → acts m ≡ false → acting m next ≡ m
 inert_acting m next e = ap (λ b. record m { state = if b then next m.state else m.state }) e
 
-pub inert_changing : (m : Machine) (l : Line) (r : Result Macros Cause) → acts m ≡ false → changing m l r ≡ m
-inert_changing m l (Ok macros) e = inert_acting m (λ s. with_macros s macros) e
-inert_changing m l (Err cause) e = inert_refusing m l cause e
+pub inert_changing : (m : Machine) (l : Line) (d : Directive) (r : Result Macros Cause) → acts m ≡ false → changing m l d r ≡ m
+inert_changing m l d (Ok macros) e = inert_acting m (λ s. state_behind s l d macros) e
+inert_changing m l d (Err cause) e = inert_refusing m l cause e
 
 pub inert_plain : (m : Machine) (l : Line) → acts m ≡ false → plain_step m l ≡ m
 inert_plain m l e = by l.directive
   where
-    barred : (r : Result Macros Cause) (b : Bool) → (if b then changing m l r else m) ≡ m
-    barred r true = inert_changing m l r e
-    barred r false = refl
+    barred : (d : Directive) (r : Result Macros Cause) (b : Bool) → (if b then changing m l d r else m) ≡ m
+    barred d r true = inert_changing m l d r e
+    barred d r false = refl
 
     by : (d : Option Directive) → plain_by m l d ≡ m
     by None = inert_acting m (λ s. with_text s l) e
-    by (Some d) = barred (changed_by m.state.macros l d) (is_barrier d)
+    by (Some d) = barred d (changed_by m.state.macros l d) (is_barrier d)
 
 pub inert_closing : (m : Machine) (r : Result (List Token) Fault) → acts m ≡ false → closing_run m r ≡ m
 inert_closing m (Ok output) e = inert_acting m (λ s. put_out s output) e
@@ -379,14 +379,14 @@ module _ (x : Context) where
       by true same = again (e ∙ ap Some (same_definition-true other d.definition same))
       by false differ = redefined other e (same_definition-false other d.definition differ)
 
-  defines_as : (macros : Macros) (l : Line) (r : Result Defined Cause) → reads (behind_name l) ≡ r → Changes macros l directive.Define (defined_as macros r)
+  defines_as : (macros : Macros) (l : Line) (r : Result Defined Cause) → reads l.standard (behind_name l) ≡ r → Changes macros l directive.Define (defined_as macros r)
   defines_as macros l (Ok d) e = defines d e (defines_over macros d (macros d.name) refl)
   defines_as macros l (Err cause) e = defines_nothing cause e
 
   changes : (macros : Macros) (l : Line) (d : Directive) → is_barrier d ≡ true → is_said d ≡ false → Changes macros l d (changed_by macros l d)
   changes macros l (directive.Conditional c) b unsaid = cc
   changes macros l directive.Include b unsaid = cc
-  changes macros l directive.Define b unsaid = defines_as macros l (reads (behind_name l)) refl
+  changes macros l directive.Define b unsaid = defines_as macros l (reads l.standard (behind_name l)) refl
   changes macros l directive.Undef b unsaid = undefines
   changes macros l directive.Line b unsaid = cc
   changes macros l directive.Error b unsaid = error
@@ -410,16 +410,16 @@ module _ (x : Context) where
 
   -- a directive that changes macros
   changed_follows : (l : Line) (s : State) → HasHash l → (d : Directive) → l.directive ≡ Some d → is_barrier d ≡ true → is_said d ≡ false → (output : List Token) → TextExpands s.macros s.run (Ok output)
-      → (ss : List (Bool × Bool)) (r : Result Macros Cause) → changed_by s.macros l d ≡ r → EndsAs (Steps x l) s ss (changing (taking ss (put_out s output)) l r)
+      → (ss : List (Bool × Bool)) (r : Result Macros Cause) → changed_by s.macros l d ≡ r → EndsAs (Steps x l) s ss (changing (taking ss (put_out s output)) l d r)
   changed_follows l s has d e b unsaid output expands ss (Ok macros) r =
-      carried_follows l s d e b output expands ss (Ok (with_macros (put_out s output) macros)) (changed macros (subst (Changes s.macros l d) r (changes s.macros l d b unsaid)))
+      carried_follows l s d e b output expands ss (Ok (state_behind (put_out s output) l d macros)) (changed macros (subst (Changes s.macros l d) r (changes s.macros l d b unsaid)))
   changed_follows l s has d e b unsaid output expands ss (Err cause) r =
       let fault = refusal (put_out s output) l cause in
       carried_follows l s d e b output expands ss (Err fault)
       (not_changed cause fault (subst (Changes s.macros l d) r (changes s.macros l d b unsaid)) (refused_at (put_out s output) l cause has (λ none. let both = sym e ∙ none in cc)))
 
-  barrier_is : (m : Machine) (l : Line) (d : Directive) → conditional_of l ≡ None → l.directive ≡ Some d → is_barrier d ≡ true → step m l (Ok false) ≡ changing m l (changed_by m.state.macros l d)
-  barrier_is m l d none e b = step_is m l (Ok false) none ∙ (ap (plain_by m l) e ∙ ap (λ t. if t then changing m l (changed_by m.state.macros l d) else m) b)
+  barrier_is : (m : Machine) (l : Line) (d : Directive) → conditional_of l ≡ None → l.directive ≡ Some d → is_barrier d ≡ true → step m l (Ok false) ≡ changing m l d (changed_by m.state.macros l d)
+  barrier_is m l d none e b = step_is m l (Ok false) none ∙ (ap (plain_by m l) e ∙ ap (λ t. if t then changing m l d (changed_by m.state.macros l d) else m) b)
 
   -- a barrier
   barrier_follows : (l : Line) (s : State) → HasHash l → conditional_of l ≡ None → (d : Directive) → l.directive ≡ Some d → is_barrier d ≡ true → is_said d ≡ false

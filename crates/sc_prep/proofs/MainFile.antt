@@ -45,6 +45,7 @@ use Rattle.sc_prep.specs.declared.walk.Walk.{Walk}
 use Rattle.sc_prep.specs.Footprints.{Comes, ComesInside, StopsAmong, StopsAtPlace}
 use Rattle.sc_prep.specs.Includes.{EntersAt}
 use Rattle.sc_prep.specs.Machine.{Machine, start}
+use Rattle.sc_prep.specs.Once.{AreOnceHeld}
 use Rattle.sc_prep.specs.Preprocesses.{IsOrdinary, IsRefused, OwnsList, is_accepted}
 use Rattle.sc_prep.specs.Printable.{AllPass, ArePlaced, ArePlainPaths, CanBeShown, any_token, is_plain}
 use Rattle.sc_prep.specs.Simulates.{IsBegun, IsBetweenRuns, IsContext, IsOutcomeOf, IsReady, Leads, Owns, PlainEach, Simulates}
@@ -101,7 +102,7 @@ module _ (space : Space) (outside : Files) (main config : List ℕ) where
   refuses-main {files} {cause} {place} {answer} refusal is =
       let fault = fault_at cause (seen_place files place) in
       let includes : Includes (context_of space outside) (main ∷ []) (first_place main) (initial_state space main config) (Err fault) =
-      entered (file_with main refusal.bytes) (ap (found_or None main) refusal.is) (refusal.refuses (context_of space outside) (initial_state space main config) refl) in
+      entered (file_with main refusal.bytes) (ap (found_or None main) refusal.is) refl (refusal.refuses (context_of space outside) (initial_state space main config) refl) in
       ap is_accepted (pre-unique is (record { end = Err fault; walked = includes; is = refl }))
 
   -- the end that was kept is the main file's, where it is accepted
@@ -127,13 +128,14 @@ pub record IsNew (s : Sets) (space : Space) (names files : List (List ℕ)) (wal
   pub owns : Owns s walk
   pub table : IsTable s names walk.table
   pub gathered : walk.gathered ≡ []
+  pub once : walk.once.items ≡ []
   pub list : walk.prepared.list ≡ []
   pub faults : walk.prepared.faults.items ≡ []
   pub starts : (main config : List ℕ) → IsConfig s.arities config → Simulates s names files walk config (start (initial_state space main config))
 
 -- the walk that was made with the first macros of a space
 pub begins-new : {s : Sets} {before names : List (List ℕ)} {walk : Walk} {table : MacroTable} (space : Space) (files : List (List ℕ)) → s.arities ≡ arities_of space → Owns s walk
-    → (walk.gathered ≡ []) × (walk.prepared.list ≡ []) × (walk.prepared.faults.items ≡ []) → walk.table ≡ table → ((s : Sets) → s.arities ≡ arities_of space → IsTable s before table)
+    → (walk.gathered ≡ []) × (walk.once.items ≡ []) × (walk.prepared.list ≡ []) × (walk.prepared.faults.items ≡ []) → walk.table ≡ table → ((s : Sets) → s.arities ≡ arities_of space → IsTable s before table)
     → ((s : Sets) (config name : List ℕ) → s.arities ≡ arities_of space → IsConfig s.arities config → macros_at s before table config name ≡ initial_macros space config name) → Extends before names
     → ((names files : List (List ℕ)) (config : List ℕ) (first : State) → IsConfig s.arities config → IsBegun s names table config first → Simulates s names files walk config (start first))
     → IsNew s space names files walk
@@ -142,8 +144,9 @@ begins-new {s} {before} {names} {walk} {table} space files arities owns empty sa
   owns = owns;
   table = subst (IsTable s names) (sym same) (IsTable-Extends grows (is s arities));
   gathered = empty.0;
-  list = empty.1;
-  faults = empty.2;
+  once = empty.1;
+  list = empty.2;
+  faults = empty.3;
   starts = λ main config listed.
       starts names files config (initial_state space main config) listed (begins-as space main config grows (is s arities) (λ name. initial s config name arities listed));
 }
@@ -158,6 +161,7 @@ module _ {s : Sets} {space : Space} {names files : List (List ℕ)} {walk : Walk
       list = subst (ArePlaced names (length files)) (sym fresh.list) (λ k d h. absurd (omega (arith, h)));
       passed = subst (AllPass any_token) (sym fresh.list) (λ k d h. absurd (omega (arith, h)));
       faults = subst (All (λ (f : base.Fault). f.place.file.0 < length files)) (sym fresh.faults) (λ k d h. absurd (omega (arith, h)));
+      once = subst (AreOnceHeld (length files)) (sym fresh.once) (λ k d h. absurd (omega (arith, h)));
     };
     read = read;
   }
@@ -215,6 +219,7 @@ module _ {s : Sets} {space : Space} {names files : List (List ℕ)} {walk : Walk
           passed = subst (AllPass any_token) (sym list-empty) (λ k d h. absurd (omega (arith, h)));
           faults = subst (All (λ (f : base.Fault). f.place.file.0 < length files)) (sym faults-one) (All-cons (λ (f : base.Fault). f.place.file.0 < length files) fault [] there
               (All-nil (λ (f : base.Fault). f.place.file.0 < length files)));
+          once = λ k d h. absurd (omega (arith, h));
         }) plain (record { few = λ config listed. faults-few next_sets files next.prepared.faults.items config (Some (seen_fault files fault)) (ends-refused config (IsConfig-kept keeps listed)).fault }) paths
 
   -- the main file is entered
@@ -244,7 +249,7 @@ module _ {s : Sets} {space : Space} {names files : List (List ℕ)} {walk : Walk
         → ArePlainPaths more_files → CanBeShown next_sets more more_files next.prepared
     entered-shown ready plain paths =
         all-shown next_sets more more_files next.prepared ready.owns.prepared
-        (record { gathered = λ k d h. absurd (omega (arith, h)); list = ready.held.list; passed = ready.held.passed; faults = ready.held.faults }) plain entered-apart paths
+        (record { gathered = λ k d h. absurd (omega (arith, h)); list = ready.held.list; passed = ready.held.passed; faults = ready.held.faults; once = λ k d h. absurd (omega (arith, h)) }) plain entered-apart paths
 
   pub entered-is : {next_sets : Sets} {more more_files : List (List ℕ)} {next : Walk} (keeps : Keeps s next_sets) (main : List ℕ) (outside : Files) (file : FileId) (cond : Cond)
       (named : slice_get files file.0 ≡ Some main) (everywhere : (config : List ℕ) → IsConfig s.arities config → s.has cond.0 config ≡ true)

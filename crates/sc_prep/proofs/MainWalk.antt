@@ -9,7 +9,7 @@ use Rattle.sc_model.specs.Outside.{Files}
 use Rattle.sc_model.specs.Sets.{Sets}
 use Rattle.sc_model.specs.Space.{Space}
 use Rattle.sc_prep.specs.declared.prepared.Prepared.{Prepared}
-use Rattle.sc_prep.specs.Includes.{EntersAt, inert, enters}
+use Rattle.sc_prep.specs.Includes.{EntersAt, inert, left_out, enters}
 use Rattle.sc_prep.specs.Machine.{Machine, start}
 use Rattle.sc_prep.specs.Preprocesses.{IsOrdinary, IsRefused}
 use Rattle.sc_prep.specs.Simulates.{IsBegun, IsOutcomeOf}
@@ -38,19 +38,20 @@ module _ (s : Sets) (names files : List (List ℕ)) (p : Prepared) (space : Spac
 
   includes-main : (f : File) {r : _} → f.name ≡ main → outside main ≡ Some f.bytes → Enters (context_of space outside) f (initial_state space main config) r
       → Includes (context_of space outside) (main ∷ []) (first_place main) (initial_state space main config) r
-  includes-main f named there walks = entered f (finds-main outside main f named there) walks
+  includes-main f named there walks = entered f (finds-main outside main f named there) refl walks
 
   -- the main file was entered
   pub entered-ordinary : {n : Machine} → EntersAt (context_of space outside) main 0 (start (initial_state space main config)) true n → IsOutcomeOf s names files p config n
       → IsOrdinary s names files p (Pre space outside main config) config
   entered-ordinary (inert inactive) outcome = cc
-  entered-ordinary (enters f (Ok t) acting named there walks) outcome = record {
+  entered-ordinary (left_out acting once) outcome = cc
+  entered-ordinary (enters f (Ok t) acting named there again walks) outcome = record {
     answer = Ok t.output;
     preprocessed = record { end = Ok t; walked = includes-main f named there walks; is = refl };
     stands = (outcome.output refl, outcome.fault);
     live = outcome.live;
   }
-  entered-ordinary (enters f (Err fault) acting named there walks) outcome = record {
+  entered-ordinary (enters f (Err fault) acting named there again walks) outcome = record {
     answer = Err fault;
     preprocessed = record { end = Err fault; walked = includes-main f named there walks; is = refl };
     stands = outcome.fault;
@@ -60,4 +61,4 @@ module _ (s : Sets) (names files : List (List ℕ)) (p : Prepared) (space : Spac
 -- the macros of a table that was made from a space are its first ones
 pub begins-as : {s : Sets} {names more : List (List ℕ)} {table : MacroTable} (space : Space) (main config : List ℕ) → Extends names more → IsTable s names table
     → ((name : List ℕ) → macros_at s names table config name ≡ initial_macros space config name) → IsBegun s more table config (initial_state space main config)
-begins-as space main config grows is initial = record { macros = λ name. macros_at-Extends grows is config name ∙ initial name; output = refl; run = refl }
+begins-as space main config grows is initial = record { macros = λ name. macros_at-Extends grows is config name ∙ initial name; output = refl; run = refl; once = refl }

@@ -40,6 +40,7 @@ use Rattle.sc_prep.proofs.FoundFiles.{finds-nothing}
 use Rattle.sc_prep.proofs.LineSteps.{line-grown}
 use Rattle.sc_prep.proofs.ListsAt.{items-keeps}
 use Rattle.sc_prep.proofs.Machine.{inert_refusing}
+use Rattle.sc_prep.proofs.OnceLemmas.{held-more, once-later}
 use Rattle.sc_prep.proofs.PlainRuns.{path-plain}
 use Rattle.sc_prep.proofs.PlainWalks.{says-plain}
 use Rattle.sc_prep.proofs.WalkMoves.{simulates-kept}
@@ -250,6 +251,7 @@ module _ {before now files more : List (List ℕ)} (grows : Extends before now) 
     list = λ k d h. IsPlaced-later grows files_grow _ (held.list k d h);
     passed = held.passed;
     faults = λ k d h. Extends-within _ (held.faults k d h) files_grow;
+    once = held-more files_grow w.once.items held.once;
   }
 
   items-later : (s : Sets) (list : List (Cond × base.Token)) (c : List ℕ) → ArePlaced before (length files) list → map (seen now more) (items_at s list c) ≡ map (seen before files) (items_at s list c)
@@ -267,6 +269,7 @@ module _ {before now files more : List (List ℕ)} (grows : Extends before now) 
     };
     run = λ none. items-later s w.gathered c held.gathered ∙ at.run none;
     macros = λ none name. macros_at-Extends grows table c name ∙ at.macros none name;
+    once = λ none name. once-later files_grow s w.once.items c name held.once ∙ at.once none name;
   }
 
 -- ---- the files that configurations enter

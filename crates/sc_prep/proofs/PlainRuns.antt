@@ -10,7 +10,7 @@ use Rattle.c11_directives.specs.declared.directive.Directive.{Directive}
 use Rattle.c11_directives.specs.declared.directive.Directive.TheVariants as directive
 use Rattle.c11_directives.specs.Behind.{behind_name}
 use Rattle.c11_directives.specs.Lines.{Line, conditional_of}
-use Rattle.c11_directives.specs.Pre.{Context, State, with_text, put_out, with_macro, with_macros, operand_of, is_barrier}
+use Rattle.c11_directives.specs.Pre.{Context, State, with_text, put_out, with_macro, state_behind, operand_of, is_barrier}
 use Rattle.c11_macros.specs.Defines.{Defined, reads}
 use Rattle.c11_macros.specs.Macros.{Definition, Macros, IsOneLineList}
 use Rattle.c11_macros.specs.Same.{same_definition}
@@ -54,7 +54,7 @@ defined-plain macros (Err cause) lists one = tt
 
 changed-plain : (macros : Macros) (l : Line) (d : Directive) → AreOneLine macros → Every IsPlainToken l.tokens → PlainChange (changed_by macros l d)
 changed-plain macros l directive.Define lists all =
-    defined-plain macros (reads (behind_name l)) lists (λ d is. read-plain l d all is)
+    defined-plain macros (reads l.standard (behind_name l)) lists (λ d is. read-plain l d all is)
 changed-plain macros l directive.Undef lists all = undefined-plain macros (operand_of l) lists
 changed-plain macros l (directive.Conditional c) lists all = lists
 changed-plain macros l directive.Include lists all = tt
@@ -71,18 +71,18 @@ closing-plain : (m : Machine) (r : Result (List Token) Fault) → IsPlainState m
 closing-plain m (Ok output) plain = both IsPlainState (acts m) (put_out m.state output) m.state (record { macros = plain.macros; run = tt; file = plain.file }) plain
 closing-plain m (Err fault) plain = plain
 
-changing-plain : (m : Machine) (l : Line) (r : Result Macros Cause) → IsPlainState m.state → PlainChange r → IsPlainState (changing m l r).state
-changing-plain m l (Ok macros) plain change =
-    both IsPlainState (acts m) (with_macros m.state macros) m.state (record { macros = change; run = plain.run; file = plain.file }) plain
-changing-plain m l (Err cause) plain change = plain
+changing-plain : (m : Machine) (l : Line) (d : Directive) (r : Result Macros Cause) → IsPlainState m.state → PlainChange r → IsPlainState (changing m l d r).state
+changing-plain m l d (Ok macros) plain change =
+    both IsPlainState (acts m) (state_behind m.state l d macros) m.state (record { macros = change; run = plain.run; file = plain.file }) plain
+changing-plain m l d (Err cause) plain change = plain
 
 plain_by-plain : (m : Machine) (l : Line) (d : Option Directive) → IsPlainState m.state → Every IsPlainToken l.tokens → IsPlainState (plain_by m l d).state
 plain_by-plain m l None plain all =
     both IsPlainState (acts m) (with_text m.state l) m.state
     (record { macros = plain.macros; run = every-append IsPlainToken m.state.run l.tokens plain.run all; file = plain.file }) plain
 plain_by-plain m l (Some d) plain all =
-    both (λ (m : Machine). IsPlainState m.state) (is_barrier d) (changing m l (changed_by m.state.macros l d)) m
-    (changing-plain m l (changed_by m.state.macros l d) plain (changed-plain m.state.macros l d plain.macros all)) plain
+    both (λ (m : Machine). IsPlainState m.state) (is_barrier d) (changing m l d (changed_by m.state.macros l d)) m
+    (changing-plain m l d (changed_by m.state.macros l d) plain (changed-plain m.state.macros l d plain.macros all)) plain
 
 opened-plain : (m : Machine) (r : Result Bool Fault) → IsPlainState m.state → IsPlainState (opened_as m r).state
 opened-plain m (Ok test) plain = plain

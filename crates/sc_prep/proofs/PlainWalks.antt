@@ -8,7 +8,7 @@ use Rattle.std.specs.Prelude.{IfOk, ◌-◌, if◌then◌else◌}
 use Rattle.c11_directives.specs.declared.directive.Directive.{Directive}
 use Rattle.c11_directives.specs.Behind.{behind_name, Says, as_it_stands, expanded}
 use Rattle.c11_directives.specs.Lines.{Line, line_of, lines_of, split_lines, onto_first, Group, Branches, group_lines, branch_lines, Tree, nested}
-use Rattle.c11_directives.specs.Pre.{Context, State, Closes, closed, refused, Defines, fresh, again, redefined, undefined, without_macro, operand_of, Changes, ignored, unknown, error, defines, defines_nothing, undefines, Steps, text, null, stopped, carried_out, Carries, changed, not_changed, not_expanded, numbered, not_numbered, no_header, too_deep, included, back, Walks, done, line, line_stops, taken, taken_stops, passed, passed_stops, head_stops, WalksBranches, none_taken, last_taken, later_taken, later_passed, later_stops, File, found_or, search, inside, file_lines, Enters, too_large, unended, badly_nested, stopped_inside, walked, Includes, missing, entered}
+use Rattle.c11_directives.specs.Pre.{Context, State, Closes, closed, refused, Defines, fresh, again, redefined, undefined, without_macro, operand_of, Changes, ignored, unknown, error, defines, defines_nothing, undefines, Steps, text, null, stopped, carried_out, Carries, changed, not_changed, not_expanded, numbered, not_numbered, no_header, too_deep, included, back, Walks, done, line, line_stops, taken, taken_stops, passed, passed_stops, head_stops, WalksBranches, none_taken, last_taken, later_taken, later_passed, later_stops, File, found_or, search, inside, file_lines, Enters, too_large, unended, badly_nested, stopped_inside, walked, Includes, missing, left_out, entered}
 use Rattle.c11_headers.specs.declared.kind.HeaderKind.{HeaderKind}
 use Rattle.c11_headers.specs.declared.kind.HeaderKind.TheVariants.{Quoted, Angle}
 use Rattle.c11_headers.specs.Headers.{Header, header_with, delimited, spaced, up_to_angle, form_by, form_of, is_file_name, with_file_name, header_of, is_slash, directory_of, is_absolute, in_directory, beside, candidates}
@@ -163,8 +163,8 @@ undefined-plain macros None lists = tt
 undefined-plain macros (Some name) lists = both PlainChange (is_protected name) (Err ProtectedName) (Ok (without_macro macros name)) tt (update-one_line macros name None lists tt)
 
 -- the list of a macro that a line defines
-pub read-plain : (l : Line) (d : Defined) → Every IsPlainToken l.tokens → reads (behind_name l) ≡ Ok d → IsOneLineList d.definition.replacement
-read-plain l d all is = reads-one_line (behind_name l) d (spelled-plain (behind_name l) (every-drop IsPlainToken 2 l.tokens all)) is
+pub read-plain : (l : Line) (d : Defined) → Every IsPlainToken l.tokens → reads l.standard (behind_name l) ≡ Ok d → IsOneLineList d.definition.replacement
+read-plain l d all is = reads-one_line l.standard (behind_name l) d (spelled-plain (behind_name l) (every-drop IsPlainToken 2 l.tokens all)) is
 
 defines-plain : {macros : Macros} {d : Defined} {r : Result Macros Cause} → Defines macros d r → AreOneLine macros → IsOneLineList d.definition.replacement → PlainChange r
 defines-plain {macros} {d} (fresh e) lists one = update-one_line macros d.name (Some d.definition) lists one
@@ -272,7 +272,8 @@ module _ (x : Context) (directories : All IsPlain x.include) where
 
     pub includes-plain : {names : List (List ℕ)} {asked : Place} {s : State} {r : Result State Fault} → Includes x names asked s r → IsPlainState s → Every IsPlain names → IfOk r IsPlainState
     includes-plain (missing e) p all = tt
-    includes-plain {names} (entered file e d) p all = enters-plain d p (searched-plain x.files names file all e)
+    includes-plain (left_out file e once) p all = p
+    includes-plain {names} (entered file e new d) p all = enters-plain d p (searched-plain x.files names file all e)
 
     pub enters-plain : {file : File} {s : State} {r : Result State Fault} → Enters x file s r → IsPlainState s → IsPlain file.name → IfOk r IsPlainState
     enters-plain (too_large large) p named = tt

@@ -189,6 +189,7 @@ puts-out {old} {mid} {new} keeps later w v next e added refuses same list put ga
   group = ap (λ (x : Walk). x.group) same ∙ ap (λ (x : Walk). x.group) refuses.same;
   sections = ap (λ (x : Walk). x.sections) same ∙ ap (λ (x : Walk). x.sections) refuses.same;
   table = ap (λ (x : Walk). x.table) same ∙ ap (λ (x : Walk). x.table) refuses.same;
+  once = ap (λ (x : Walk). x.once) same ∙ ap (λ (x : Walk). x.once) refuses.same;
   faults = ap (λ (x : Walk). x.prepared.faults.items) same ∙ refuses.faults;
   live = subst (λ (x : Cond). Denotes new x.0 (λ c. old.has w.prepared.live.0 c && has_none old e.faults.items c)) (sym (ap (λ (x : Walk). x.prepared.live) same)) (Denotes-Keeps later refuses.live);
   acting = subst (λ (x : Cond). Denotes new x.0 (λ c. old.has w.acting.0 c && has_none old e.faults.items c)) (sym (ap (λ (x : Walk). x.acting) same)) (Denotes-Keeps later refuses.acting);

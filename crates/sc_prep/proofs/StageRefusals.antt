@@ -89,6 +89,7 @@ module _ (files names more : List (List ℕ)) {old mid new : Sets} (keeps : Keep
           prepared = same.prepared;
           run = same.run;
           macros = λ clean name. still c name listed ∙ simulates.macros clean name;
+          once = same.once;
         }
 
     stored : Simulates new more files turned_to c m
@@ -116,6 +117,7 @@ module _ (files names more : List (List ℕ)) {old mid new : Sets} (keeps : Keep
           };
           run = λ clean. stored.run (none-first m.fault fault clean);
           macros = λ clean. stored.macros (none-first m.fault fault clean);
+          once = λ clean. stored.once (none-first m.fault fault clean);
         })
 
   owns_next : Owns new next
@@ -127,6 +129,7 @@ module _ (files names more : List (List ℕ)) {old mid new : Sets} (keeps : Keep
         acting = refuses.acting.own;
         sections = kept.sections;
         gathered = kept.gathered;
+        once = kept.once;
         prepared = record {
           list = kept.prepared.list;
           faults = subst (All IsOwn) (sym refuses.faults) (All-append IsOwn w.prepared.faults.items faults kept.prepared.faults (λ k d h. later.own _ (own k d h)));
@@ -154,6 +157,7 @@ module _ (files names more : List (List ℕ)) {old mid new : Sets} (keeps : Keep
             list = list-grown grows (length files) w.prepared.list held.list;
             passed = λ k d h. refl;
             faults = subst (All IsIn) (sym refuses.faults) (All-append IsIn w.prepared.faults.items faults held.faults placed);
+            once = held.once;
           });
           list = ap (λ (v : Walk). v.prepared.list) refuses.same;
           gathered = ap (λ (v : Walk). v.gathered) refuses.same;

@@ -22,7 +22,7 @@ use Rattle.sc_model.specs.declared.cause.Cause.TheVariants.{BadDirective, ErrorD
 use Rattle.sc_model.specs.Bytes.{same_bytes}
 use Rattle.c11_directives.specs.declared.directive.Directive.{Directive}
 use Rattle.c11_directives.specs.declared.directive.Directive.TheVariants as directive
-use Rattle.c11_directives.specs.Pre.{State, with_text, undefined, with_macro, without_macro, with_macros}
+use Rattle.c11_directives.specs.Pre.{State, with_text, undefined, with_macro, without_macro, is_once_file}
 use Rattle.c11_macros.specs.Defines.{Defined, is_protected}
 use Rattle.c11_macros.specs.Same.{same_definition}
 use Rattle.c11_macros.proofs.SameLaws.{same_definition-true, same_definition-false}
@@ -36,6 +36,7 @@ use Rattle.sc_model.proofs.SetLemmas.{Denotes-Keeps, Denotes-self, IsConfig-Keep
 use Rattle.sc_model.specs.Sets.{Sets, IsConfig, IsCond, IsNever, Denotes, Keeps}
 use Rattle.sc_model.specs.declared.standard.Standard.{Standard}
 use Rattle.sc_prep.proofs.Machine.{inert_acting, inert_changing}
+use Rattle.sc_prep.proofs.OnceLemmas.{once-kept, once-stays}
 use Rattle.sc_prep.proofs.RunLemmas.{denotes-as, is_empty-one}
 
 map-reverse : {A B : Type 0} (f : A → B) (xs : List A) → map f (reverse xs) ≡ reverse (map f xs)
@@ -59,6 +60,7 @@ module _ {old new : Sets} (keeps : Keeps old new) where
     acting = keeps.own w.acting.0 o.acting;
     sections = All-weaker (OwnsSection old) (OwnsSection new) section-kept w.sections.items o.sections;
     gathered = All-weaker (λ (item : Cond × Token). IsCond old item.0.0) (λ (item : Cond × Token). IsCond new item.0.0) (λ item own. keeps.own item.0.0 own) w.gathered o.gathered;
+    once = once-kept keeps w.once.items o.once;
     prepared = record {
       list = All-weaker (λ (item : Cond × Token). IsCond old item.0.0) (λ (item : Cond × Token). IsCond new item.0.0) (λ item own. keeps.own item.0.0 own) w.prepared.list o.prepared.list;
       faults = All-weaker (λ (f : base.Fault). IsCond old f.cond.0) (λ (f : base.Fault). IsCond new f.cond.0) (λ f own. keeps.own f.cond.0 own) w.prepared.faults.items o.prepared.faults;
@@ -92,6 +94,7 @@ module _ {old new : Sets} (keeps : Keeps old new) where
     };
     run = λ none. ap (map (seen names files)) (items_at-Keeps w.gathered config keeps owns.gathered listed) ∙ simulates.run none;
     macros = λ none name. macros_at-Keeps keeps is config name listed ∙ simulates.macros none name;
+    once = λ none name. once-stays keeps files w.once.items config name listed owns.once ∙ simulates.once none name;
   }
 
 -- ---- a section begins
@@ -110,6 +113,7 @@ begins names {old} {new} keeps w owns t group untaken acting sections items dg d
         acting = dl.own;
         sections = subst (All (OwnsSection new)) (sym items) (All-push (OwnsSection new) w.sections.items (record { around = w.group; untaken = untaken }) kept.sections (record { around = kept.group; untaken = du.own }));
         gathered = kept.gathered;
+        once = kept.once;
         prepared = kept.prepared;
       };
       table = IsTable-Keeps keeps;
@@ -128,6 +132,7 @@ begins names {old} {new} keeps w owns t group untaken acting sections items dg d
             prepared = record { live = same.prepared.live; output = same.prepared.output; fault = same.prepared.fault };
             run = same.run;
             macros = same.macros;
+            once = same.once;
           };
     }
 
@@ -154,7 +159,7 @@ module _ {old new : Sets} (keeps : Keeps old new) (w : Walk) (owns : Owns old w)
   turns names g group acting sections dg dl owned next becomes =
       let kept = owns-kept keeps w owns in
       record {
-        owns = record { group = dg.own; acting = dl.own; sections = owned; gathered = kept.gathered; prepared = kept.prepared };
+        owns = record { group = dg.own; acting = dl.own; sections = owned; gathered = kept.gathered; once = kept.once; prepared = kept.prepared };
         table = IsTable-Keeps keeps;
         at = λ files config m listed is simulates.
             let same = simulates-kept keeps w owns names files config m listed is simulates in
@@ -166,6 +171,7 @@ module _ {old new : Sets} (keeps : Keeps old new) (w : Walk) (owns : Owns old w)
               prepared = record { live = same.prepared.live; output = same.prepared.output; fault = same.prepared.fault };
               run = same.run;
               macros = same.macros;
+              once = same.once;
             });
       }
 
@@ -264,6 +270,7 @@ refuses standard names {old} {new} keeps w owns part t cause token tokens next d
         acting = da.own;
         sections = kept.sections;
         gathered = kept.gathered;
+        once = kept.once;
         prepared = record {
           list = kept.prepared.list;
           faults = subst (All IsOwn) (sym refused.faults) (All-push IsOwn w.prepared.faults.items own kept.prepared.faults (keeps.own part.0 dp.own));
@@ -294,6 +301,7 @@ refuses standard names {old} {new} keeps w owns part t cause token tokens next d
             };
             run = λ fault_none. same.run (none_before (t config && acts m) m.fault x fault_none);
             macros = λ fault_none. same.macros (none_before (t config && acts m) m.fault x fault_none);
+            once = λ fault_none. same.once (none_before (t config && acts m) m.fault x fault_none);
           };
     })
 
@@ -329,6 +337,10 @@ text_macros : (b : Bool) (s : State) (l : Line) → (if b then with_text s l els
 text_macros true s l = refl
 text_macros false s l = refl
 
+text_once : (b : Bool) (s : State) (l : Line) (name : List ℕ) → is_once_file s name ≡ is_once_file (if b then with_text s l else s) name
+text_once true s l name = refl
+text_once false s l name = refl
+
 pub puts : (standard : Standard) (names : List (List ℕ)) (s : Sets) (w : Walk) (owns : Owns s w) (tokens : List Token) (list : List (Cond × Token)) → list ≡ w.gathered ++ under w.acting tokens
     → SimulatesStep names s w s (record w { gathered = list }) (λ files config m. acting m (λ state. with_text state (seen_line standard names files tokens)))
 puts standard names s w owns tokens list items =
@@ -339,6 +351,7 @@ puts standard names s w owns tokens list items =
         acting = owns.acting;
         sections = owns.sections;
         gathered = subst (All IsOwn) (sym items) (All-append IsOwn w.gathered (under w.acting tokens) owns.gathered (All-map IsOwn (λ t. (w.acting, t)) tokens (λ k d h. owns.acting)));
+        once = owns.once;
         prepared = owns.prepared;
       };
       table = λ is. is;
@@ -358,6 +371,7 @@ puts standard names s w owns tokens list items =
             ∙ (ap (λ xs. if acts m then xs ++ map (seen names files) tokens else xs) (simulates.run none)
             ∙ text_after (acts m) m.state (seen_line standard names files tokens))));
         macros = λ none name. simulates.macros none name ∙ sym (ap (λ f. f name) (text_macros (acts m) m.state (seen_line standard names files tokens)));
+        once = λ none name. simulates.once none name ∙ text_once (acts m) m.state (seen_line standard names files tokens) name;
       };
     }
 
@@ -371,6 +385,10 @@ puts-none standard names s w owns never line = record {
       subst (Simulates s names files w config)
       (sym (inert_acting m (λ state. with_text state (seen_line standard names files line)) (sym simulates.acting ∙ never.none config listed))) simulates;
 }
+
+-- the state with these macros
+abbrev pub with_macros : State → Macros → State
+with_macros s macros = record s { macros = macros }
 
 -- ---- a directive that has no effect
 
@@ -404,6 +422,10 @@ changed_macros : (b : Bool) (s : State) (macros : Macros) (name : List ℕ) → 
 changed_macros true s macros name = refl
 changed_macros false s macros name = refl
 
+changed_once : (b : Bool) (s : State) (macros : Macros) (name : List ℕ) → is_once_file s name ≡ is_once_file (if b then with_macros s macros else s) name
+changed_once true s macros name = refl
+changed_once false s macros name = refl
+
 -- Where the line does something, but for a part, the table has other macros behind it, elsewhere
 -- those from before.
 pub changes-macros : (names : List (List ℕ)) {old new : Sets} (keeps : Keeps old new) (w : Walk) (owns : Owns old w) (table : MacroTable) (t : List ℕ → Bool) (becomes : Macros → Macros)
@@ -414,7 +436,7 @@ pub changes-macros : (names : List (List ℕ)) {old new : Sets} (keeps : Keeps o
 changes-macros names {old} {new} keeps w owns table t becomes is_table changed =
     let kept = owns-kept keeps w owns in
     record {
-      owns = record { group = kept.group; acting = kept.acting; sections = kept.sections; gathered = kept.gathered; prepared = kept.prepared };
+      owns = record { group = kept.group; acting = kept.acting; sections = kept.sections; gathered = kept.gathered; once = kept.once; prepared = kept.prepared };
       table = λ _. is_table;
       at = λ files config m listed is simulates.
           let same = simulates-kept keeps w owns names files config m listed is simulates in
@@ -431,12 +453,13 @@ changes-macros names {old} {new} keeps w owns table t becomes is_table changed =
             run = λ none. same.run none ∙ changed_run (not (t config) && acts m) m.state next;
             macros = λ none name. changed config listed m.state.macros (simulates.macros none) name
                 ∙ (ap (λ b. if not (t config) && b then next name else m.state.macros name) simulates.acting ∙ changed_macros (not (t config) && acts m) m.state next name);
+            once = λ none name. same.once none name ∙ changed_once (not (t config) && acts m) m.state next name;
           };
     }
 
 -- the walk with another table
 pub same-owns : {old new : Sets} (keeps : Keeps old new) (w : Walk) (owns : Owns old w) (table : MacroTable) → Owns new (record w { table = table })
-same-owns keeps w owns table = let kept = owns-kept keeps w owns in record { group = kept.group; acting = kept.acting; sections = kept.sections; gathered = kept.gathered; prepared = kept.prepared }
+same-owns keeps w owns table = let kept = owns-kept keeps w owns in record { group = kept.group; acting = kept.acting; sections = kept.sections; gathered = kept.gathered; once = kept.once; prepared = kept.prepared }
 
 -- the table says what it said
 pub same-macros : (names : List (List ℕ)) {old new : Sets} (keeps : Keeps old new) (w : Walk) (owns : Owns old w) (table : MacroTable) → IsTable new names table → IsStill old new names w.table table
@@ -444,11 +467,11 @@ pub same-macros : (names : List (List ℕ)) {old new : Sets} (keeps : Keeps old 
 same-macros names {old} {new} keeps w owns table is_table still =
     let kept = owns-kept keeps w owns in
     record {
-      owns = record { group = kept.group; acting = kept.acting; sections = kept.sections; gathered = kept.gathered; prepared = kept.prepared };
+      owns = record { group = kept.group; acting = kept.acting; sections = kept.sections; gathered = kept.gathered; once = kept.once; prepared = kept.prepared };
       table = λ _. is_table;
       at = λ files config m listed is simulates.
           let same = simulates-kept keeps w owns names files config m listed is simulates in
-          record { active = same.active; acting = same.acting; sections = same.sections; prepared = same.prepared; run = same.run; macros = λ none name. still config name listed ∙ simulates.macros none name };
+          record { active = same.active; acting = same.acting; sections = same.sections; prepared = same.prepared; run = same.run; macros = λ none name. still config name listed ∙ simulates.macros none name; once = same.once };
     }
 
 -- what a table says stays as the store grows further
@@ -478,25 +501,25 @@ accepted-over macros d (Some was) same = by (same_definition was d.definition) r
 -- line says
 pub defines-as : (m : Machine) (l : Line) (macros : Macros) (d : Defined) (t : Bool) → (m.fault ≡ None → macros d.name ≡ m.state.macros d.name)
     → ((t ≡ true) ↔ ((acts m ≡ true) × IsOther d.definition (macros d.name)))
-    → refusing_if t (acting_unless t m (λ s. with_macros s (with_macro s.macros d))) l Redefined ≡ changing m l (defined_as m.state.macros (Ok d))
+    → refusing_if t (acting_unless t m (λ s. with_macros s (with_macro s.macros d))) l Redefined ≡ changing m l directive.Define (defined_as m.state.macros (Ok d))
 defines-as m l macros d true same is =
     let found = is.0 refl in
     let other = subst (IsOther d.definition) (same (acts_none true m.active m.fault found.0)) found.1 in
-    ap (changing m l) (sym (refused-over m.state.macros d (m.state.macros d.name) other))
+    ap (changing m l directive.Define) (sym (refused-over m.state.macros d (m.state.macros d.name) other))
 defines-as m l macros d false same is = by (acts m) refl
   where
     next : State → State
     next = λ s. with_macros s (with_macro s.macros d)
 
-    by : (b : Bool) → acts m ≡ b → acting m (λ s. with_macros s (with_macro s.macros d)) ≡ changing m l (defined_as m.state.macros (Ok d))
+    by : (b : Bool) → acts m ≡ b → acting m (λ s. with_macros s (with_macro s.macros d)) ≡ changing m l directive.Define (defined_as m.state.macros (Ok d))
     by true e =
-        ap (changing m l) (sym (accepted-over m.state.macros d (m.state.macros d.name)
+        ap (changing m l directive.Define) (sym (accepted-over m.state.macros d (m.state.macros d.name)
         (λ other. let wrong = is.1 (e, subst (IsOther d.definition) (sym (same (acts_none true m.active m.fault e))) other) in cc)))
-    by false e = inert_acting m (λ s. with_macros s (with_macro s.macros d)) e ∙ sym (inert_changing m l (defined_as m.state.macros (Ok d)) e)
+    by false e = inert_acting m (λ s. with_macros s (with_macro s.macros d)) e ∙ sym (inert_changing m l directive.Define (defined_as m.state.macros (Ok d)) e)
 
 pub undefines-as : (m : Machine) (l : Line) (name : List ℕ) (t : Bool)
     → refusing_if t (acting_unless t m (λ s. with_macros s (without_macro s.macros name))) l ProtectedName
-    ≡ changing m l (if t then Err ProtectedName else Ok (without_macro m.state.macros name))
+    ≡ changing m l directive.Undef (if t then Err ProtectedName else Ok (without_macro m.state.macros name))
 undefines-as m l name true = refl
 undefines-as m l name false = refl
 
@@ -536,17 +559,18 @@ refused-as m l directive.Null cause e = cc
 refused-as m l directive.Unknown cause e = let same : BadDirective ≡ cause = cc in ap (refusing m l) (sym same)
 
 pub unchanged-by : (standard : Standard) (names : List (List ℕ)) (s : Sets) (w : Walk) → Owns s w → (line : List Token) (d : Directive) → refusal_of d ≡ None → (d ≡ directive.Define → ⊥) → (d ≡ directive.Undef → ⊥)
+    → (d ≡ directive.Pragma → ⊥)
     → SimulatesStep names s w s w (λ files config m. plain_by m (seen_line standard names files line) (Some d))
-unchanged-by standard names s w owns line (directive.Conditional c) e n u = stays names s w owns
-unchanged-by standard names s w owns line directive.Include e n u = cc
-unchanged-by standard names s w owns line directive.Define e n u = absurd (n refl)
-unchanged-by standard names s w owns line directive.Undef e n u = absurd (u refl)
-unchanged-by standard names s w owns line directive.Line e n u = cc
-unchanged-by standard names s w owns line directive.Error e n u = cc
-unchanged-by standard names s w owns line directive.Pragma e n u = ignores names s w owns
-unchanged-by standard names s w owns line directive.Warning e n u = ignores names s w owns
-unchanged-by standard names s w owns line directive.Null e n u = stays names s w owns
-unchanged-by standard names s w owns line directive.Unknown e n u = cc
+unchanged-by standard names s w owns line (directive.Conditional c) e n u p = stays names s w owns
+unchanged-by standard names s w owns line directive.Include e n u p = cc
+unchanged-by standard names s w owns line directive.Define e n u p = absurd (n refl)
+unchanged-by standard names s w owns line directive.Undef e n u p = absurd (u refl)
+unchanged-by standard names s w owns line directive.Line e n u p = cc
+unchanged-by standard names s w owns line directive.Error e n u p = cc
+unchanged-by standard names s w owns line directive.Pragma e n u p = absurd (p refl)
+unchanged-by standard names s w owns line directive.Warning e n u p = ignores names s w owns
+unchanged-by standard names s w owns line directive.Null e n u p = stays names s w owns
+unchanged-by standard names s w owns line directive.Unknown e n u p = cc
 
 -- ---- moves joined
 
@@ -596,12 +620,12 @@ module _ (standard : Standard) (names : List (List ℕ)) {old mid new : Sets} (k
       → ((c text : List ℕ) → IsConfig old.arities c → macros_at mid names table c text
       ≡ (if old.has w.acting.0 c && not (mid.has refused.0 c) then update same_bytes (macros_at old names w.table c) d.name (Some d.definition) text else macros_at old names w.table c text))
       → Refuses standard mid new w table refused next line Redefined
-      → SimulatesStep names old w new next (λ files config m. changing m (seen_line standard names files line) (defined_as m.state.macros (Ok d)))
+      → SimulatesStep names old w new next (λ files config m. changing m (seen_line standard names files line) directive.Define (defined_as m.state.macros (Ok d)))
   defines d own is changed refuse =
       let t : List ℕ → Bool = mid.has refused.0 in
       let step : State → State = λ s. with_macros s (with_macro s.macros d) in
       step-as (λ files config m. refusing_if (t config) (acting_unless (t config) m step) (seen_line standard names files line) Redefined)
-      (λ files config m. changing m (seen_line standard names files line) (defined_as m.state.macros (Ok d)))
+      (λ files config m. changing m (seen_line standard names files line) directive.Define (defined_as m.state.macros (Ok d)))
       (λ files config m listed simulates.
       defines-as m (seen_line standard names files line) (macros_at old names w.table config) d (t config) (λ clean. simulates.macros clean d.name)
       (subst (λ b. (t config ≡ true) ↔ ((b ≡ true) × IsOther d.definition (macros_at old names w.table config d.name))) simulates.acting (is config listed)))
@@ -620,12 +644,12 @@ module _ (standard : Standard) (names : List (List ℕ)) {old mid new : Sets} (k
       → ((c text : List ℕ) → IsConfig old.arities c → macros_at mid names table c text
       ≡ (if old.has w.acting.0 c && not (is_protected name) then update same_bytes (macros_at old names w.table c) name None text else macros_at old names w.table c text))
       → Refuses standard mid new w table refused next line ProtectedName
-      → SimulatesStep names old w new next (λ files config m. changing m (seen_line standard names files line) (undefined m.state.macros (Some name)))
+      → SimulatesStep names old w new next (λ files config m. changing m (seen_line standard names files line) directive.Undef (undefined m.state.macros (Some name)))
   undefines name denotes changed refuse =
       let t : Bool = is_protected name in
       let step : State → State = λ s. with_macros s (without_macro s.macros name) in
       step-as (λ files config m. refusing_if t (acting_unless t m step) (seen_line standard names files line) ProtectedName)
-      (λ files config m. changing m (seen_line standard names files line) (undefined m.state.macros (Some name)))
+      (λ files config m. changing m (seen_line standard names files line) directive.Undef (undefined m.state.macros (Some name)))
       (λ files config m listed simulates. undefines-as m (seen_line standard names files line) name t)
       (step-then (λ files config m. acting_unless t m step) (λ files config m. refusing_if t m (seen_line standard names files line) ProtectedName) keeps
       (changes-macros names keeps w owns table (λ _. t) (λ macros. without_macro macros name) is_table

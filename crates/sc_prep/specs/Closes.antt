@@ -40,6 +40,7 @@ pub record PutsOut (old : Sets) (walk : Walk) (e : Expanded) (new : Sets) (next 
   pub group : next.group ≡ walk.group
   pub sections : next.sections ≡ walk.sections
   pub table : next.table ≡ walk.table
+  pub once : next.once ≡ walk.once
   pub faults : next.prepared.faults.items ≡ walk.prepared.faults.items ++ e.faults.items
   pub live : Denotes new next.prepared.live.0 (λ c. old.has walk.prepared.live.0 c && has_none old e.faults.items c)
   pub acting : Denotes new next.acting.0 (λ c. old.has walk.acting.0 c && has_none old e.faults.items c)

@@ -1,8 +1,8 @@
 -- To which moments a machine comes, and a walk that stops for the footprints that are had there.
-use Rattle.std.specs.Prelude.{◌≡◌, ℕ, ◌+◌, ◌≤◌, Bool, true, List, [], ◌∷◌, All, AllPairs, None, Some, length}
+use Rattle.std.specs.Prelude.{◌≡◌, ℕ, ◌+◌, ◌≤◌, Bool, true, false, List, [], ◌∷◌, All, AllPairs, None, Some, length}
 use Rattle.c11_directives.specs.Footprints.{HasFootprints}
 use Rattle.c11_directives.specs.Lines.{Line, conditional_of}
-use Rattle.c11_directives.specs.Pre.{Context, File}
+use Rattle.c11_directives.specs.Pre.{Context, File, is_once_file}
 use Rattle.c11_directives.specs.Reaches.{FileReaches, LineReaches, Moment, at_end, at_head}
 use Rattle.sc_base.specs.declared.stop.Stop.{Stop}
 use Rattle.sc_base.specs.declared.stop.Stop.TheVariants.{BranchesFull, ReadFault, OutOfMemory}
@@ -35,6 +35,7 @@ pub record ComesInside (x : Context) (name : List ℕ) (depth : ℕ) (m : Machin
   pub file : File
   pub named : file.name ≡ name
   pub there : x.files name ≡ Some file.bytes
+  pub again : is_once_file m.state name ≡ false
   pub reaches : FileReaches x file (record m.state { depth = depth }) chain k
 
 -- ---- all configurations

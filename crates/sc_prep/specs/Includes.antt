@@ -3,7 +3,7 @@ use Rattle.std.specs.Prelude.{◌≡◌, ℕ, ◌<◌, Bool, true, false, List, 
 use Rattle.c11_directives.specs.Behind.{Says}
 use Rattle.c11_directives.specs.declared.directive.Directive.TheVariants as directive
 use Rattle.c11_directives.specs.Lines.{Line, hash_of}
-use Rattle.c11_directives.specs.Pre.{Context, State, File, Carries, Enters, back, search}
+use Rattle.c11_directives.specs.Pre.{Context, State, File, Carries, Enters, back, is_once_file, search}
 use Rattle.c11_headers.specs.Headers.{Header, header_of, candidates}
 use Rattle.c11_macros.specs.Results.{result_map}
 use Rattle.sc_base.specs.declared.id.FileId.{FileId}
@@ -34,10 +34,11 @@ pub data Finds (x : Context) (l : Line) (files : List (List ℕ)) (m : Machine) 
       → m.state.depth < x.include_depth → hash_of l ≡ Some hash → search x.files (candidates header m.state.file x.include) ≡ Some f
       → slice_get files file.0 ≡ Some f.name → Finds x l files m (file ∷ []) m
 
--- The file of this name is entered at a depth, where the configuration is one of those that enter
--- it.
+-- The file of this name is entered at a depth, unless it is one that is entered no more, where the
+-- configuration is one of these.
 pub data EntersAt (x : Context) (name : List ℕ) (depth : ℕ) (m : Machine) : Bool → Machine → Type 0 where
   elsewhere : EntersAt x name depth m false m
   inert : {has : Bool} → acts m ≡ false → EntersAt x name depth m has m
-  enters : (f : File) (e : Result State Fault) → acts m ≡ true → f.name ≡ name → x.files name ≡ Some f.bytes → Enters x f (record m.state { depth = depth }) e
+  left_out : acts m ≡ true → is_once_file m.state name ≡ true → EntersAt x name depth m true m
+  enters : (f : File) (e : Result State Fault) → acts m ≡ true → f.name ≡ name → x.files name ≡ Some f.bytes → is_once_file m.state name ≡ false → Enters x f (record m.state { depth = depth }) e
       → EntersAt x name depth m true (arriving m (result_map (back m.state) e))

@@ -9,6 +9,7 @@ pub mod Footprints
 pub mod Includes
 pub mod Machine
 pub mod Naming
+pub mod Once
 pub mod Passes
 pub mod Preprocesses
 pub mod Printable

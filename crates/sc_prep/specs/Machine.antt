@@ -12,7 +12,7 @@ use Rattle.c11_directives.specs.declared.directive.Directive.TheVariants as dire
 use Rattle.c11_directives.specs.Lines.{Line, conditional_of, hash_of}
 use Rattle.sc_model.specs.Fault.{Fault, fault_at, first_place}
 use Rattle.c11_directives.specs.Behind.{behind_name, Says}
-use Rattle.c11_directives.specs.Pre.{Context, State, Carries, Decides, place_in, with_text, put_out, operand_of, with_macro, undefined, is_barrier, is_said, with_macros}
+use Rattle.c11_directives.specs.Pre.{Context, State, Carries, Decides, place_in, with_text, put_out, operand_of, with_macro, undefined, is_barrier, is_said, state_behind}
 use Rattle.c11_macros.specs.Defines.{Defined, reads}
 use Rattle.c11_macros.specs.Macros.{Definition, Macros}
 use Rattle.c11_macros.specs.Same.{same_definition}
@@ -110,19 +110,19 @@ refused_by macros (Some cause) = Err cause
 
 -- what a directive makes of the macros, or why it is refused
 abbrev pub changed_by : Macros → Line → Directive → Result Macros Cause
-changed_by macros l directive.Define = defined_as macros (reads (behind_name l))
+changed_by macros l directive.Define = defined_as macros (reads l.standard (behind_name l))
 changed_by macros l directive.Undef = undefined macros (operand_of l)
 changed_by macros l d = refused_by macros (refusal_of d)
 
--- behind a barrier the macros become these, or the line is refused
-abbrev pub changing : Machine → Line → Result Macros Cause → Machine
-changing m l (Ok macros) = acting m (λ s. with_macros s macros)
-changing m l (Err cause) = refusing m l cause
+-- the directive leaves these macros, or the line is refused
+abbrev pub changing : Machine → Line → Directive → Result Macros Cause → Machine
+changing m l d (Ok macros) = acting m (λ s. state_behind s l d macros)
+changing m l d (Err cause) = refusing m l cause
 
 -- a line that is no conditional directive
 abbrev pub plain_by : Machine → Line → Option Directive → Machine
 plain_by m l None = acting m (λ s. with_text s l)
-plain_by m l (Some d) = if is_barrier d then changing m l (changed_by m.state.macros l d) else m
+plain_by m l (Some d) = if is_barrier d then changing m l d (changed_by m.state.macros l d) else m
 
 abbrev pub plain_step : Machine → Line → Machine
 plain_step m l = plain_by m l l.directive

@@ -14,7 +14,9 @@ use Rattle.sc_guarded.specs.Printable.{IsShowable, IsShowableFault, AreApart}
 use Rattle.sc_model.specs.Bytes.{has_no_newline}
 use Rattle.sc_model.specs.Sets.{Sets, IsConfig}
 use Rattle.sc_model.specs.Token as model
+use Rattle.sc_prep.specs.declared.once.OnceFile.{OnceFile}
 use Rattle.sc_prep.specs.declared.prepared.Prepared.{Prepared}
+use Rattle.sc_prep.specs.Once.{AreOnceHeld}
 use Rattle.sc_prep.specs.declared.walk.Walk.{Walk}
 use Rattle.sc_table.specs.Table.{macros_at}
 
@@ -38,19 +40,21 @@ AllPass test list = All (λ item. test item.1 ≡ true) list
 abbrev pub ArePlaced : List (List ℕ) → ℕ → List (Cond × Token) → Type 0
 ArePlaced names files list = All (λ item. IsPlaced names files item.1) list
 
--- the tables hold what was gathered and prepared, and the tokens that were put out pass the test
-pub record AreHeld (names : List (List ℕ)) (files : ℕ) (test : Token → Bool) (text : List (Cond × Token)) (p : Prepared) : Type 0 where
+-- the tables hold what was gathered and prepared and the files that are entered no more, and the
+-- tokens that were put out pass the test
+pub record AreHeld (names : List (List ℕ)) (files : ℕ) (test : Token → Bool) (text : List (Cond × Token)) (marked : List OnceFile) (p : Prepared) : Type 0 where
   pub gathered : ArePlaced names files text
   pub list : ArePlaced names files p.list
   pub passed : AllPass test p.list
   pub faults : All (λ (f : base.Fault). f.place.file.0 < files) p.faults.items
+  pub once : AreOnceHeld files marked
 
 abbrev pub any_token : Token → Bool
 any_token t = true
 
 -- the tables hold what is kept of the walk
 abbrev pub IsHeldWalk : List (List ℕ) → ℕ → (Token → Bool) → Walk → Type 0
-IsHeldWalk names files test w = AreHeld names files test w.gathered w.prepared
+IsHeldWalk names files test w = AreHeld names files test w.gathered w.once.items w.prepared
 
 -- from one walk to the next only tokens of the line are gathered, and none is put out
 abbrev pub StaysHeld : List (List ℕ) → List Token → Walk → Walk → Type 0

@@ -5,12 +5,13 @@ use Rattle.sc_prep.specs.declared.prepared.Prepared.{Prepared}
 use Rattle.sc_prep.specs.declared.walk.Section.{Section}
 use Rattle.sc_prep.specs.declared.walk.Walk.{Walk}
 use Rattle.sc_prep.specs.Machine.{Machine, Runs, RunExpands, acts, closing_run, start}
+use Rattle.sc_prep.specs.Once.{OwnsOnce, once_at}
 use Rattle.sc_prep.specs.Preprocesses.{OwnsList}
 use Rattle.sc_guarded.specs.Items.{items_at, faults_at, seen_fault}
 use Rattle.sc_base.specs.Seen.{seen}
 use Rattle.sc_table.specs.declared.table.MacroTable.{MacroTable}
 use Rattle.c11_directives.specs.Lines.{Line}
-use Rattle.c11_directives.specs.Pre.{Context, State}
+use Rattle.c11_directives.specs.Pre.{Context, State, is_once_file}
 use Rattle.sc_model.specs.declared.standard.Standard.{Standard}
 use Rattle.sc_model.specs.Outside.{Files}
 use Rattle.sc_model.specs.Space.{Space}
@@ -38,6 +39,7 @@ pub record IsBegun (s : Sets) (names : List (List ℕ)) (table : MacroTable) (co
   pub macros : (name : List ℕ) → macros_at s names table config name ≡ first.macros name
   pub output : first.output ≡ []
   pub run : first.run ≡ []
+  pub once : first.once ≡ []
 
 -- At this configuration the walk is where the machine is.
 pub record Simulates (s : Sets) (names files : List (List ℕ)) (walk : Walk) (config : List ℕ) (m : Machine) : Type 0 where
@@ -47,6 +49,7 @@ pub record Simulates (s : Sets) (names files : List (List ℕ)) (walk : Walk) (c
   pub prepared : IsOutcomeOf s names files walk.prepared config m
   pub run : m.fault ≡ None → map (seen names files) (items_at s walk.gathered config) ≡ m.state.run
   pub macros : m.fault ≡ None → (name : List ℕ) → macros_at s names walk.table config name ≡ m.state.macros name
+  pub once : m.fault ≡ None → (name : List ℕ) → once_at s files walk.once.items config name ≡ is_once_file m.state name
 
 pub record OwnsSection (s : Sets) (section : Section) : Type 0 where
   pub around : IsCond s section.around.0
@@ -58,6 +61,7 @@ pub record Owns (s : Sets) (walk : Walk) : Type 0 where
   pub acting : IsCond s walk.acting.0
   pub sections : All (OwnsSection s) walk.sections.items
   pub gathered : All (λ item. IsCond s item.0.0) walk.gathered
+  pub once : OwnsOnce s walk.once.items
   pub prepared : OwnsList s walk.prepared
 
 -- From one walk to the next, at each configuration the machine does this, whatever the names of

@@ -113,7 +113,7 @@ impl Walk {
             Some(barrier) => {
                 self.barrier_line(alloc, conds, names, files, limit, standard, line, barrier)
             }
-            None => self.plain_line(alloc, conds, names, line, directive),
+            None => self.plain_line(alloc, conds, names, standard, line, directive),
         }
     }
 
@@ -146,7 +146,7 @@ impl Walk {
         self.close_runs(alloc, conds, names, files, limit)?;
         match directive {
             Directive::Line => self.number_line(alloc, conds, names, files, limit, line),
-            _ => self.plain_line(alloc, conds, names, line, Some(directive)),
+            _ => self.plain_line(alloc, conds, names, standard, line, Some(directive)),
         }
     }
 
@@ -197,6 +197,7 @@ impl Walk {
         alloc: Global,
         conds: &mut C,
         names: &Names,
+        standard: Standard,
         line: &[Token],
         directive: Option<Directive>,
     ) -> Result<(), Stop>
@@ -205,7 +206,7 @@ impl Walk {
         requires table { IsTable (C.sets conds.old) names.now self.old.table }
         requires line { (directive ≡ None → ⊥) → 0 < length line.now }
         ensures printable { OnOk result (StaysHeld names.now line.now self.old self.new) }
-        ensures moved { OnOk result ((standard : Standard) → SimulatesStep names.now (C.sets conds.old) self.old (C.sets conds.new) self.new
+        ensures moved { OnOk result (SimulatesStep names.now (C.sets conds.old) self.old (C.sets conds.new) self.new
             (λ files config m. plain_by m (seen_line standard names.now files line.now) directive)) }
         ensures memory { IfErr result (λ s. s ≡ stop.OutOfMemory) }
         ensures gathers { OnOk result (GathersFrom line.now self.old self.new) }
@@ -213,8 +214,9 @@ impl Walk {
     {
         match directive {
             None => Ok(self.put(conds, line)?),
-            Some(Directive::Define) => self.define(alloc, conds, names, line),
+            Some(Directive::Define) => self.define(alloc, conds, names, standard, line),
             Some(Directive::Undef) => self.undef(conds, names, line),
+            Some(Directive::Pragma) => Ok(self.pragma(conds, names, line)?),
             Some(directive) => self.other_line(conds, line, directive),
         }
     }
@@ -231,6 +233,7 @@ impl Walk {
         requires line { 0 < length line.now }
         requires define { directive ≡ kind.Define → ⊥ }
         requires undef { directive ≡ kind.Undef → ⊥ }
+        requires pragma { directive ≡ kind.Pragma → ⊥ }
         ensures printable { OnOk result ((names : List (List ℕ)) → StaysHeld names line.now self.old self.new) }
         ensures moved { OnOk result ((standard : Standard) (names : List (List ℕ)) → SimulatesStep names (C.sets conds.old) self.old (C.sets conds.new) self.new
             (λ files config m. plain_by m (seen_line standard names files line.now) (Some directive))) }
@@ -251,6 +254,7 @@ impl Walk {
         alloc: Global,
         conds: &mut C,
         names: &Names,
+        standard: Standard,
         line: &[Token],
     ) -> Result<(), Stop>
         requires held { All (IsHeld names.now) line.now }
@@ -258,14 +262,14 @@ impl Walk {
         requires table { IsTable (C.sets conds.old) names.now self.old.table }
         requires line { 0 < length line.now }
         ensures printable { OnOk result (StaysHeld names.now line.now self.old self.new) }
-        ensures moved { OnOk result ((standard : Standard) → SimulatesStep names.now (C.sets conds.old) self.old (C.sets conds.new) self.new
-            (λ files config m. changing m (seen_line standard names.now files line.now)
+        ensures moved { OnOk result (SimulatesStep names.now (C.sets conds.old) self.old (C.sets conds.new) self.new
+            (λ files config m. changing m (seen_line standard names.now files line.now) kind.Define
             (changed_by m.state.macros (seen_line standard names.now files line.now) kind.Define))) }
         ensures memory { IfErr result (λ s. s ≡ stop.OutOfMemory) }
         ensures gathered { OnOk result (self.new.gathered ≡ self.old.gathered) }
         ensures keeps { Keeps (C.sets conds.old) (C.sets conds.new) }
     {
-        match read_define(alloc, names, line) {
+        match read_define(alloc, names, standard, line) {
             Ok(definition) => self.define_macro(conds, names, definition, line),
             Err(DefineStop::Fault(cause)) => Ok(self.refuse_all(conds, cause, line)?),
             Err(DefineStop::OutOfMemory) => Err(Stop::OutOfMemory),
@@ -287,7 +291,7 @@ impl Walk {
         requires line { 0 < length line.now }
         ensures printable { OnOk result ((names : List (List ℕ)) → StaysHeld names line.now self.old self.new) }
         ensures moved { OnOk result ((standard : Standard) → SimulatesStep names.now (C.sets conds.old) self.old (C.sets conds.new) self.new
-            (λ files config m. changing m (seen_line standard names.now files line.now) (defined_as m.state.macros (Ok (seen_defined names.now definition))))) }
+            (λ files config m. changing m (seen_line standard names.now files line.now) kind.Define (defined_as m.state.macros (Ok (seen_defined names.now definition))))) }
         ensures memory { IfErr result (λ s. s ≡ stop.OutOfMemory) }
         ensures gathered { OnOk result (self.new.gathered ≡ self.old.gathered) }
         ensures keeps { Keeps (C.sets conds.old) (C.sets conds.new) }
@@ -311,7 +315,7 @@ impl Walk {
         requires line { 0 < length line.now }
         ensures printable { OnOk result ((names : List (List ℕ)) → StaysHeld names line.now self.old self.new) }
         ensures moved { OnOk result ((standard : Standard) → SimulatesStep names.now (C.sets conds.old) self.old (C.sets conds.new) self.new
-            (λ files config m. changing m (seen_line standard names.now files line.now)
+            (λ files config m. changing m (seen_line standard names.now files line.now) kind.Undef
             (changed_by m.state.macros (seen_line standard names.now files line.now) kind.Undef))) }
         ensures memory { IfErr result (λ s. s ≡ stop.OutOfMemory) }
         ensures gathered { OnOk result (self.new.gathered ≡ self.old.gathered) }
@@ -338,7 +342,7 @@ impl Walk {
         requires line { 0 < length line.now }
         ensures printable { OnOk result ((names : List (List ℕ)) → StaysHeld names line.now self.old self.new) }
         ensures moved { OnOk result ((standard : Standard) → SimulatesStep names.now (C.sets conds.old) self.old (C.sets conds.new) self.new
-            (λ files config m. changing m (seen_line standard names.now files line.now) (undefined m.state.macros (Some (text_at names.now name.0))))) }
+            (λ files config m. changing m (seen_line standard names.now files line.now) kind.Undef (undefined m.state.macros (Some (text_at names.now name.0))))) }
         ensures memory { IfErr result (λ s. s ≡ stop.OutOfMemory) }
         ensures gathered { OnOk result (self.new.gathered ≡ self.old.gathered) }
         ensures keeps { Keeps (C.sets conds.old) (C.sets conds.new) }

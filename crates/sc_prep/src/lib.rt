@@ -17,6 +17,7 @@ mod main_file;
 mod naming;
 mod next_line;
 mod numbering;
+mod once;
 mod prepared;
 mod walk;
 

@@ -269,7 +269,7 @@ impl Walk {
         ensures files { Extends files.old files.new }
         ensures keeps { Keeps (C.sets conds.old) (C.sets conds.new) }
     {
-        let inside = conds.apply_and(cond, self.acting)?;
+        let inside = self.entering(conds, files, cond, entry.file)?;
         if conds.is_never(inside) {
             return Ok(());
         }

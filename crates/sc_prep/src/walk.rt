@@ -10,6 +10,7 @@ ghost use Rattle.sc_prep.specs.Preprocesses.{OwnsList};
 ghost use Rattle.sc_lines.specs.Nests.{seen_line};
 ghost use Rattle.sc_prep.specs.Printable.{StaysHeld};
 
+use crate::once::OnceFile;
 use crate::prepared::Prepared;
 use sc_base::{Cause, Cond, Fault, OutOfMemory, Place, Token};
 use sc_guarded::Guarded;
@@ -39,6 +40,8 @@ pub struct Walk {
     pub table: MacroTable,
     /// The text since the last barrier, which is not expanded yet.
     pub gathered: Guarded<Token>,
+    /// The files that `#pragma once` keeps from being entered again, each once.
+    pub once: Vec<OnceFile>,
     /// What was put out and refused so far.
     pub prepared: Prepared,
 }
@@ -52,7 +55,7 @@ impl Walk {
         end: Place,
     ) -> Result<Walk, OutOfMemory>
         ensures owns { IfOk result (λ walk. Owns (C.sets conds.now) walk) }
-        ensures empty { IfOk result (λ walk. (walk.gathered ≡ []) × (walk.prepared.list ≡ []) × (walk.prepared.faults.items ≡ [])) }
+        ensures empty { IfOk result (λ walk. (walk.gathered ≡ []) × (walk.once.items ≡ []) × (walk.prepared.list ≡ []) × (walk.prepared.faults.items ≡ [])) }
         ensures table { IfOk result (λ walk. walk.table ≡ table) }
         ensures end { IfOk result (λ walk. walk.prepared.end ≡ end) }
         ensures starts { IfOk result (λ walk. (names files : List (List ℕ)) (config : List ℕ) (first : State) → IsConfig (C.sets conds.now).arities config
@@ -64,6 +67,7 @@ impl Walk {
             sections: Vec::new(alloc),
             table,
             gathered: Guarded::new(alloc)?,
+            once: Vec::new(alloc),
             prepared: Prepared {
                 list: Guarded::new(alloc)?,
                 faults: Vec::new(alloc),

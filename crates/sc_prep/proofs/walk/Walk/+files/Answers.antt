@@ -3,7 +3,7 @@ use Rattle.std.proofs.lemmas.Result.{IfErr-weaker, on_ok_weaker}
 use Rattle.sc_base.proofs.Growth.{Extends-refl, Extends-trans, Extends-within}
 use Rattle.sc_lines.proofs.SeenLines.{directive-files}
 use Rattle.sc_base.specs.Seen.{text_at}
-use Rattle.sc_model.proofs.SetLemmas.{Denotes-self, Keeps-trans}
+use Rattle.sc_model.proofs.SetLemmas.{Keeps-trans}
 use Rattle.sc_prep.proofs.Contents.{agrees-back, IsPlaced-later}
 use Rattle.sc_prep.proofs.EnterLeads.{begun-plain, held-lines, held-refusal, kept-lines, kept-refusal, leads-inside, leads-nowhere, leads-refused, left-plain, refused-list}
 use Rattle.sc_prep.proofs.LeadMoves.{content-named, contents-stay, leads-one, limit-stops, ready-moved, ready-begun, ready-kept, ready-left, ready-refused, stops-later, stored-ready}
@@ -39,8 +39,14 @@ use Rattle.sc_prep.proofs.DirectiveStops.{carried-stops, closing-stops}
 use Rattle.sc_prep.proofs.WalkStops.{apart-first, apart-line, apart-next, end-stops, file-stops, line-stops, to_come}
 use Rattle.sc_prep.proofs.walk.Walk.+files.Goals as goal
 
-pub enter-apply_and-requires-clause-b_own : goal.enter-apply_and-requires-clause-b_own
-enter-apply_and-requires-clause-b_own g t c = c.requires.ready.owns.acting
+pub enter-entering-requires-clause-owns : goal.enter-entering-requires-clause-owns
+enter-entering-requires-clause-owns g t c = c.requires.ready.owns
+
+pub enter-entering-requires-clause-file : goal.enter-entering-requires-clause-file
+enter-entering-requires-clause-file g t c = c.requires.ready.read.named c.args.entry.file.0 _ c.requires.content
+
+pub enter-entering-requires-clause-once : goal.enter-entering-requires-clause-once
+enter-entering-requires-clause-once g t c = c.requires.ready.held.once
 
 -- ---- no configuration enters the file
 
@@ -49,7 +55,7 @@ enter-returns-then-is_never-clause-enters g t c = λ x context agrees.
     let old = g.C.Conditions.sets c.args.conds.now in
     let w = c.args.self.now in
     leads-nowhere c.args.files.now c.args.cond c.args.entry c.in_ok-inside.ensures.keeps
-    (c.in_ok-inside.ensures.meaning (old.has c.args.cond.0) (old.has w.acting.0) (Denotes-self old c.args.cond.0 c.requires.own) (Denotes-self old w.acting.0 c.requires.ready.owns.acting))
+    c.in_ok-inside.ensures.entering
     c.requires.ready.owns c.requires.ready.table x (c.is_never.ensures.0 c.if-is_never.true)
 
 pub enter-returns-then-is_never-clause-ready : goal.enter-returns-then-is_never-clause-ready
@@ -73,7 +79,7 @@ enter-walk_lines-requires g t c κs given = (
           c.requires.deep,
           (
             c.in_ok-around-in-Lines.ensures.sections,
-            ready-begun c.in_ok-around-in-Lines.ensures c.in_ok-inside.ensures.own (ready-kept c.in_ok-inside.ensures.keeps c.requires.ready),
+            ready-begun c.in_ok-around-in-Lines.ensures c.in_ok-inside.ensures.entering.own (ready-kept c.in_ok-inside.ensures.keeps c.requires.ready),
           ),
         ),
       ),
@@ -90,7 +96,7 @@ enter-returns-in_ok-end_file-in-Lines-clause-enters g t c = λ x context agrees.
     let named = content-named ready.read c.args.entry.file.0 c.requires.content in
     let held = agrees-back walked.names walked.files ready.read x.files walked.read agrees in
     leads-inside c.args.files.now c.args.cond c.args.entry c.in_ok-inside.ensures.keeps
-    (c.in_ok-inside.ensures.meaning (old.has c.args.cond.0) (old.has w.acting.0) (Denotes-self old c.args.cond.0 c.requires.own) (Denotes-self old w.acting.0 ready.owns.acting))
+    c.in_ok-inside.ensures.entering
     ready.owns ready.table c.walk_lines.new.names c.walk_lines.new.files walked.keeps c.in_ok-end_file-in-Lines.ensures.keeps c.in_ok-around-in-Lines.ensures c.in_ok-end_file-in-Lines.ensures.leaves walked.names walked.files ready.held walked.ready.owns walked.ready.table x context.standard _ named
     (kept-lines c.args.entry.file.0 _ held named c.requires.content c.in-Lines.is) (walked.covers x context agrees)
 
@@ -112,6 +118,9 @@ enter-returns-in_ok-end_file-in-Lines-clause-gathered g t c =
 pub enter-refuse_at-requires-clause-live : goal.enter-refuse_at-requires-clause-live
 enter-refuse_at-requires-clause-live g t c = (ready-kept c.in_ok-inside.ensures.keeps c.requires.ready).owns.prepared.live
 
+pub enter-refuse_at-requires-clause-acting : goal.enter-refuse_at-requires-clause-acting
+enter-refuse_at-requires-clause-acting g t c = (ready-kept c.in_ok-inside.ensures.keeps c.requires.ready).owns.acting
+
 pub enter-returns-in_ok-refuse_at-in-Refused-clause-enters : goal.enter-returns-in_ok-refuse_at-in-Refused-clause-enters
 enter-returns-in_ok-refuse_at-in-Refused-clause-enters g t c = λ x context agrees.
     let old = g.C.Conditions.sets c.args.conds.now in
@@ -119,13 +128,13 @@ enter-returns-in_ok-refuse_at-in-Refused-clause-enters g t c = λ x context agre
     let ready = c.requires.ready in
     let named = content-named ready.read c.args.entry.file.0 c.requires.content in
     leads-refused c.args.files.now c.args.cond c.args.entry c.in_ok-inside.ensures.keeps
-    (c.in_ok-inside.ensures.meaning (old.has c.args.cond.0) (old.has w.acting.0) (Denotes-self old c.args.cond.0 c.requires.own) (Denotes-self old w.acting.0 ready.owns.acting))
+    c.in_ok-inside.ensures.entering
     ready.owns ready.table _ _ c.in_ok-refuse_at-in-Refused.ensures.keeps c.in_ok-refuse_at-in-Refused.ensures.refuses x context.standard
     (kept-refusal c.args.entry.file.0 _ _ agrees named c.requires.content c.in-Refused.is)
 
 pub enter-returns-in_ok-refuse_at-in-Refused-clause-ready : goal.enter-returns-in_ok-refuse_at-in-Refused-clause-ready
 enter-returns-in_ok-refuse_at-in-Refused-clause-ready g t c =
-    ready-refused c.in_ok-refuse_at-in-Refused.ensures.keeps (ready-kept c.in_ok-inside.ensures.keeps c.requires.ready) c.in_ok-refuse_at-in-Refused.ensures.refuses c.in_ok-inside.ensures.own
+    ready-refused c.in_ok-refuse_at-in-Refused.ensures.keeps (ready-kept c.in_ok-inside.ensures.keeps c.requires.ready) c.in_ok-refuse_at-in-Refused.ensures.refuses c.in_ok-inside.ensures.entering.own
     (held-refusal c.args.entry.file _ _ c.requires.ready.read c.requires.content c.in-Refused.is)
 
 pub enter-returns-in_ok-end_file-in-Lines-clause-plain : goal.enter-returns-in_ok-end_file-in-Lines-clause-plain
@@ -134,7 +143,7 @@ enter-returns-in_ok-end_file-in-Lines-clause-plain g t c = λ x context agrees s
     let w = c.args.self.now in
     let walked = c.in_ok-walk_lines-in-Lines.ensures in
     let ready = c.requires.ready in
-    let inside = c.in_ok-inside.ensures.meaning (old.has c.args.cond.0) (old.has w.acting.0) (Denotes-self old c.args.cond.0 c.requires.own) (Denotes-self old w.acting.0 ready.owns.acting) in
+    let inside = c.in_ok-inside.ensures.entering in
     let end = c.in_ok-end_file-in-Lines.ensures in
     let begins = c.in_ok-around-in-Lines.ensures in
     let files = c.args.files.now in
@@ -152,7 +161,7 @@ enter-returns-in_ok-end_file-in-Lines-clause-paths g t c = λ x context agrees s
     let w = c.args.self.now in
     let walked = c.in_ok-walk_lines-in-Lines.ensures in
     let ready = c.requires.ready in
-    let inside = c.in_ok-inside.ensures.meaning (old.has c.args.cond.0) (old.has w.acting.0) (Denotes-self old c.args.cond.0 c.requires.own) (Denotes-self old w.acting.0 ready.owns.acting) in
+    let inside = c.in_ok-inside.ensures.entering in
     let end = c.in_ok-end_file-in-Lines.ensures in
     let begins = c.in_ok-around-in-Lines.ensures in
     let files = c.args.files.now in
@@ -589,5 +598,5 @@ enter-returns-in_err-walk_lines-in-Lines-clause-footprints g t c = λ x context 
     let stops = c.in_err-walk_lines-in-Lines.ensures.footprints x context told (ap (λ (v : Walk). v.gathered) begins.is) (lines-apart has.are) in
     answer-stops (λ at. at) _ c.args.space.now.limits.branches c.from_residual-in_err-walk_lines-in-Lines.result keeps.arities
     (comes-inside c.args.files.now c.args.cond c.args.entry keeps
-    (c.in_ok-inside.ensures.meaning (old.has c.args.cond.0) (old.has w.acting.0) (Denotes-self old c.args.cond.0 c.requires.own) (Denotes-self old w.acting.0 ready.owns.acting))
+    c.in_ok-inside.ensures.entering
     ready.owns ready.table begins x context.standard c.in-Lines.file named has) (search (rules, stops))

@@ -79,7 +79,7 @@ returns-in_default-clause-takes g c =
     let placed : All (IsPlaced c.close_runs.new.names count) line = λ k e h. placed-grown first.names count _ (c.requires.placed k e h) in
     record {
       simulates = takes-closed c.args.standard c.args.files.now line d c.requires.directive c.requires.barrier.0 (unsaid d c.requires.barrier.1 c.in_default.not-Line) (barrier-unconditional d c.requires.barrier.0)
-          first.names (λ k e h. (c.requires.placed k e h).held) first.keeps closed.simulates (moved c.args.standard) x;
+          first.names (λ k e h. (c.requires.placed k e h).held) first.keeps closed.simulates moved x;
       held = stays count any_token placed closed.held;
       plain = λ plain was. stays-plain c.close_runs.new.names count line c.close_runs.new.self c.plain_line.new.self stays placed closed.held (closed.plain plain was);
       gathers = gathers-then [] line c.args.self.now c.close_runs.new.self c.plain_line.new.self closed.gathers gathers;

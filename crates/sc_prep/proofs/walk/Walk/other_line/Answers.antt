@@ -16,4 +16,4 @@ returns-in_ok-refuse_all-in-Some-clause-moved g c = λ standard names.
 pub returns-in-None-clause-moved : goal.returns-in-None-clause-moved
 returns-in-None-clause-moved g c = λ standard names.
     unchanged-by standard names (g.C.Conditions.sets c.args.conds.now) c.args.self.now c.requires.owns c.args.line.now c.args.directive
-    (sym c.in-None.ensures) c.requires.define c.requires.undef
+    (sym c.in-None.ensures) c.requires.define c.requires.undef c.requires.pragma

@@ -27,7 +27,7 @@ returns-clause-printable g c = λ names files test all old.
     let whole : c.loop-token.token-index ≡ length c.args.line.now = omega arith in
     let taken = ap (λ n. take n c.args.line.now) whole ∙ take-length c.args.line.now in
     subst (λ (next : Walk). IsHeldWalk names files test next) (sym c.loop-token.invariant)
-    (subst (λ ts. AreHeld names files test (w.gathered ++ under w.acting ts) w.prepared) (sym taken) (gathered-held names files test w c.args.line.now all old))
+    (subst (λ ts. AreHeld names files test (w.gathered ++ under w.acting ts) w.once.items w.prepared) (sym taken) (gathered-held names files test w c.args.line.now all old))
 
 pub returns-then-is_never-clause-moved : goal.returns-then-is_never-clause-moved
 returns-then-is_never-clause-moved g c = λ standard names.

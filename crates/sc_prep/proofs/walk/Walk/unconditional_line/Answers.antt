@@ -30,7 +30,7 @@ returns-in-None-clause-takes g c =
     let stored = c.requires.stored in
     let p = c.plain_line.ensures in
     ok-three c.plain_line.result (λ moved stays gathers x. record {
-      simulates = takes-plain c.args.standard c.args.files.now line c.args.directive c.requires.directive (barrier-missing c.args.directive c.in-None.ensures) c.requires.local.0 stored.table (moved c.args.standard) x;
+      simulates = takes-plain c.args.standard c.args.files.now line c.args.directive c.requires.directive (barrier-missing c.args.directive c.in-None.ensures) c.requires.local.0 stored.table moved x;
       held = stays count any_token c.requires.placed stored.held;
       plain = λ plain was. stays-plain names count line w next stays c.requires.placed stored.held was;
       gathers = gathers;

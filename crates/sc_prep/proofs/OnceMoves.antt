@@ -1,0 +1,72 @@
+-- What `#pragma once` and other pragmas do to a walk.
+use Rattle.std.proofs.Common.{◌≡◌, ℕ, ◌<◌, ◌&&◌, ◌||◌, Bool, true, false, List, ◌∷◌, length, drop, get_or, Vec, Global, Some, refl, sym, ap, ◌∙◌, subst, if◌then◌else◌}
+use Rattle.std.proofs.Math.Seq.{drop-cons}
+use Rattle.c11_directives.specs.declared.directive.Directive.TheVariants as directive
+use Rattle.c11_directives.specs.Lines.{Line}
+use Rattle.c11_directives.specs.Pre.{State, is_once, state_behind}
+use Rattle.sc_base.specs.Seen.{text_at}
+use Rattle.sc_base.specs.declared.token.Token.{Token}
+use Rattle.sc_lines.specs.Nests.{seen_line}
+use Rattle.sc_model.specs.Bytes.{same_bytes}
+use Rattle.sc_model.specs.Sets.{Sets, Keeps}
+use Rattle.sc_model.specs.declared.standard.Standard.{Standard}
+use Rattle.sc_prep.proofs.OnceLemmas.{behind-once, behind-other}
+use Rattle.sc_prep.proofs.WalkMoves.{owns-kept, simulates-kept}
+use Rattle.sc_prep.specs.Machine.{acts, plain_by}
+use Rattle.sc_prep.specs.Once.{MarksFile, once_at}
+use Rattle.sc_prep.specs.Simulates.{Owns, Simulates, SimulatesStep}
+use Rattle.sc_prep.specs.declared.once.OnceFile.{OnceFile}
+use Rattle.sc_prep.specs.declared.walk.Walk.{Walk}
+use Rattle.sc_table.proofs.Growth.{IsTable-Keeps}
+
+-- what a pragma leaves as it is
+behind-same : {A : Type 0} (part : State → A) → ((s : State) (once : List (List ℕ)) → part (record s { once = once }) ≡ part s) → (b : Bool) (l : Line) (s : State)
+    → part (if b then state_behind s l directive.Pragma s.macros else s) ≡ part s
+behind-same part same true l s = same s (state_behind s l directive.Pragma s.macros).once
+behind-same part same false l s = refl
+
+-- its file is marked in the configurations that act
+module _ (names : List (List ℕ)) {old new : Sets} (keeps : Keeps old new) (w : Walk) (owns : Owns old w) (once : Vec OnceFile Global) where
+  marks-first : (standard : Standard) (token : Token) (tokens : List Token) → MarksFile old w.once.items token.place.file.0 w.acting.0 new once.items
+      → ((files : List (List ℕ)) → is_once (seen_line standard names files (token ∷ tokens)) ≡ true)
+      → SimulatesStep names old w new (record w { once = once }) (λ files config m. plain_by m (seen_line standard names files (token ∷ tokens)) (Some directive.Pragma))
+  marks-first standard token tokens marks is_one =
+      let kept = owns-kept keeps w owns in
+      record {
+        owns = record { group = kept.group; acting = kept.acting; sections = kept.sections; gathered = kept.gathered; once = marks.own; prepared = kept.prepared };
+        table = IsTable-Keeps keeps;
+        at = λ files config m listed is simulates.
+            let same = simulates-kept keeps w owns names files config m listed is simulates in
+            let l = seen_line standard names files (token ∷ tokens) in
+            record {
+              active = same.active;
+              acting = same.acting;
+              sections = same.sections;
+              prepared = record { live = same.prepared.live; output = λ none. same.prepared.output none ∙ sym (behind-same (λ (t : State). t.output) (λ _ _. refl) (acts m) l m.state); fault = same.prepared.fault };
+              run = λ none. same.run none ∙ sym (behind-same (λ (t : State). t.run) (λ _ _. refl) (acts m) l m.state);
+              macros = λ none name. same.macros none name ∙ sym (behind-same (λ (t : State). t.macros name) (λ _ _. refl) (acts m) l m.state);
+              once = λ none name.
+                  marks.at files config name listed
+                  ∙ (ap (λ b. (b && same_bytes name (text_at files token.place.file.0)) || once_at old files w.once.items config name) simulates.acting
+                  ∙ (ap (λ b. (acts m && same_bytes name (text_at files token.place.file.0)) || b) (simulates.once none name)
+                  ∙ sym (behind-once (acts m) l m.state (text_at files token.place.file.0) name (is_one files) refl)));
+            };
+      }
+
+  pub marks : (standard : Standard) (line : List Token) (other : Token) → 0 < length line → MarksFile old w.once.items (get_or line 0 other).place.file.0 w.acting.0 new once.items
+      → ((files : List (List ℕ)) → is_once (seen_line standard names files line) ≡ true)
+      → SimulatesStep names old w new (record w { once = once }) (λ files config m. plain_by m (seen_line standard names files line) (Some directive.Pragma))
+  marks standard line other some marked is_one =
+      let cut = drop-cons line 0 other some in
+      subst (λ l. SimulatesStep names old w new (record w { once = once }) (λ files config m. plain_by m (seen_line standard names files l) (Some directive.Pragma))) (sym cut)
+      (marks-first standard (get_or line 0 other) (drop 1 line) marked (λ files. ap (λ l. is_once (seen_line standard names files l)) (sym cut) ∙ is_one files))
+
+-- another pragma has no effect
+pub passes : (names : List (List ℕ)) (s : Sets) (w : Walk) → Owns s w → (standard : Standard) (line : List Token) → ((files : List (List ℕ)) → is_once (seen_line standard names files line) ≡ false)
+    → SimulatesStep names s w s w (λ files config m. plain_by m (seen_line standard names files line) (Some directive.Pragma))
+passes names s w owns standard line other = record {
+  owns = owns;
+  table = λ is. is;
+  at = λ files config m listed is simulates.
+      subst (Simulates s names files w config) (sym (ap (λ (t : State). record m { state = t }) (behind-other (acts m) (seen_line standard names files line) m.state (other files)))) simulates;
+}
