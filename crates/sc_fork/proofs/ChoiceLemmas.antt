@@ -1,5 +1,5 @@
 -- Stores to which no choice is added.
-use Rattle.std.proofs.Common.{◌≡◌, ℕ, zero, suc, ◌⊎◌, inl, inr, List, [], ◌∷◌, ◌++◌, slice_get, Some, refl, sym, ap, ◌∙◌, subst, All}
+use Rattle.std.proofs.Common.{◌≡◌, ℕ, zero, suc, ◌⊎◌, inl, inr, List, [], ◌∷◌, ◌++◌, slice_get, Some, refl, sym, ap, ◌∙◌, subst, All, append_assoc}
 use Rattle.std.specs.List.{Contains}
 use Rattle.std.proofs.lemmas.List.{append-nil}
 use Rattle.std.proofs.lemmas.List.Elements.{All-head, All-nil, All-tail}
@@ -70,3 +70,15 @@ module _ (list : List (Cond × Token)) where
   pub leaves-leaf : (old new : List Line) (j : ℕ) (item : Cond × Token) → slice_get list j ≡ Some item → AddsAtMost old new (leaf item.1.place item.1.spelling) → AddsLeaves list old new
   leaves-leaf old new j item at =
       leaves-line old new (leaf item.1.place item.1.spelling) (λ place spelling e. (item, (contains-at list j item at, (let p : item.1.place ≡ place = cc in p, let n : item.1.spelling ≡ spelling = cc in n))))
+
+pub leaves-then : (list : List (Cond × Token)) (one two three : List Line) → AddsLeaves list one two → AddsLeaves list two three → AddsLeaves list one three
+leaves-then list one two three first second = record {
+  added = first.added ++ second.added;
+  is = second.is ∙ ap (λ ls. ls ++ second.added) first.is ∙ append_assoc one first.added second.added;
+  leaves = λ i place spelling at. by i place spelling (append_cases first.added second.added i (leaf place spelling) at);
+}
+  where
+    by : (i : ℕ) (place : Place) (spelling : Name) → (slice_get first.added i ≡ Some (leaf place spelling)) ⊎ ((j : ℕ) × (slice_get second.added j ≡ Some (leaf place spelling)))
+        → (item : Cond × Token) × (Contains list item × (item.1.place ≡ place × item.1.spelling ≡ spelling))
+    by i place spelling (inl at) = first.leaves i place spelling at
+    by i place spelling (inr later) = second.leaves later.0 place spelling later.1

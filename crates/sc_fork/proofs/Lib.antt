@@ -1,3 +1,4 @@
+pub mod BundleLemmas
 pub mod ChoiceLemmas
 pub mod CoreLemmas
 pub mod EnabledLemmas

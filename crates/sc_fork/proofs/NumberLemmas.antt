@@ -1,7 +1,7 @@
 -- The scopes of pieces and of a core have numbers from one table.
 use Rattle.std.proofs.Common.{◌≡◌, ℕ, List, [], ◌++◌, All, ap, sym, subst, ◌∙◌, Option}
 use Rattle.std.specs.Prelude.{IfSome}
-use Rattle.std.proofs.lemmas.List.Elements.{All-nil, All-cons, All-append, All-weaker}
+use Rattle.std.proofs.lemmas.List.Elements.{All-nil, All-cons, All-append, All-map, All-weaker}
 use Rattle.sc_base.specs.declared.id.Cond.{Cond}
 use Rattle.sc_fork.specs.declared.piece.Piece.{Piece}
 use Rattle.sc_fork.specs.declared.piece.Piece.TheVariants.{Going}
@@ -9,7 +9,7 @@ use Rattle.sc_fork.specs.declared.source.Source.{Source}
 use Rattle.sc_fork.specs.Kinds.{AddsKind, IsKind, no_part, refused_part, shifted_part}
 use Rattle.sc_fork.specs.Owns.{AllNumbered, IsNumbered}
 use Rattle.sc_fork.specs.Pieces.{going_of, without}
-use Rattle.sc_fork.specs.Seen.{ArePartsOf, no_parts, more_parts}
+use Rattle.sc_fork.specs.Seen.{part_of, parts_of}
 use Rattle.sc_fork.proofs.OwnLemmas.{going-all, row-weaker, without-own}
 use Rattle.sc_merge.specs.declared.subparser.Subparser.{Subparser}
 use Rattle.sc_model.specs.Growth.{Extends}
@@ -19,10 +19,8 @@ use Rattle.sc_scope.specs.Numbered.{HasNumbers, levels_made}
 use Rattle.sc_scope.proofs.NumberLemmas.{AreNumbered-Extends}
 
 module _ (numbers : Numbers) (parent : Subparser) (has : HasNumbers numbers parent.scopes) where
-  pub parts-numbered : (parts : List (Cond × ℕ)) (pieces : List Piece) → ArePartsOf parent parts pieces → All (IsNumbered numbers) pieces
-  parts-numbered _ _ no_parts = All-nil (IsNumbered numbers)
-  parts-numbered _ _ (more_parts part parts s pieces is rest) =
-      All-cons (IsNumbered numbers) (Going s) pieces (is.numbered numbers has) (parts-numbered parts pieces rest)
+  pub parts-numbered : (parts : List (Cond × ℕ)) → All (IsNumbered numbers) (parts_of parent parts)
+  parts-numbered parts = All-map (IsNumbered numbers) (λ (p : Cond × ℕ). Going (part_of parent p)) parts (λ k d below. has)
 
   kind-numbered : (sets : Sets) (source : Source) (at : ℕ) (cond : Cond) (kind : ℕ) (pieces : List Piece) → IsKind sets source parent at cond kind pieces → All (IsNumbered numbers) pieces
   kind-numbered sets source at cond kind _ (no_part never) = All-nil (IsNumbered numbers)

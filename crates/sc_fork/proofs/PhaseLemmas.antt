@@ -1,7 +1,7 @@
 -- In which phases the pieces of an event are.
-use Rattle.std.proofs.Common.{◌≡◌, ℕ, ◌+◌, ◌<◌, ◌≤◌, List, Option, [], ◌∷◌, ◌++◌, All, length, refl, sym, ap, ◌∙◌, subst, arith}
+use Rattle.std.proofs.Common.{◌≡◌, ℕ, ◌+◌, ◌<◌, ◌≤◌, List, Option, [], ◌∷◌, ◌++◌, All, get_or, length, refl, sym, ap, ◌∙◌, subst, arith}
 use Rattle.std.specs.Prelude.{AllPairs}
-use Rattle.std.proofs.lemmas.List.Elements.{All-head, All-tail, All-cons, All-nil, All-append}
+use Rattle.std.proofs.lemmas.List.Elements.{All-head, All-map, All-nil, All-append}
 use Rattle.std.proofs.lemmas.List.Kept.{AllPairs-cons}
 use Rattle.sc_base.specs.declared.id.Cond.{Cond}
 use Rattle.sc_fork.specs.declared.enabled.Enabled.{Enabled}
@@ -13,7 +13,7 @@ use Rattle.sc_fork.specs.declared.piece.Piece.TheVariants.{Going}
 use Rattle.sc_fork.specs.declared.source.Source.{Source}
 use Rattle.sc_fork.specs.Kinds.{AddsKind, IsKind, no_part, refused_part, shifted_part}
 use Rattle.sc_fork.specs.Pieces.{AreInOrder, IfGoing, InNextPhase, IsPast, IsReducedBy, LooksBefore, LooksFrom, Makes, splits, reduces, shifts, classifies, merges}
-use Rattle.sc_fork.specs.Seen.{IsPartOf, ArePartsOf, no_parts, more_parts}
+use Rattle.sc_fork.specs.Seen.{part_of, parts_of}
 use Rattle.sc_fork.proofs.PieceLemmas.{all-one}
 use Rattle.sc_fork.proofs.SplitLemmas.{rising-head, rising-tail}
 use Rattle.sc_merge.specs.declared.subparser.Phase.TheVariants.{At, Between}
@@ -24,39 +24,31 @@ use Rattle.sc_model.specs.Sets.{Sets}
 -- ---- parts
 
 module _ (parent : Subparser) where
-  pub parts-look : (first end : ℕ) (parts : List (Cond × ℕ)) (pieces : List Piece) → ArePartsOf parent parts pieces
-      → All (λ (p : Cond × ℕ). (first ≤ p.1) × (p.1 ≤ end)) parts → All (IfGoing (LooksFrom first end)) pieces
-  parts-look first end _ _ no_parts within = All-nil (IfGoing (LooksFrom first end))
-  parts-look first end _ _ (more_parts p parts s pieces is rest) within =
-      let Within : Cond × ℕ → Type 0 = λ q. (first ≤ q.1) × (q.1 ≤ end) in
-      let bounds : (first ≤ p.1) × (p.1 ≤ end) = All-head Within p parts within in
-      All-cons (IfGoing (LooksFrom first end)) (Going s) pieces (record { at = p.1; phase = is.phase; low = bounds.0; high = bounds.1 })
-      (parts-look first end parts pieces rest (All-tail Within p parts within))
+  pub parts-look : (first end : ℕ) (parts : List (Cond × ℕ)) → All (λ (p : Cond × ℕ). (first ≤ p.1) × (p.1 ≤ end)) parts → All (IfGoing (LooksFrom first end)) (parts_of parent parts)
+  parts-look first end parts within =
+      All-map (IfGoing (LooksFrom first end)) (λ (p : Cond × ℕ). Going (part_of parent p)) parts
+      (λ k d below. let bounds = within k d below in record { at = (get_or parts k d).1; phase = refl; low = bounds.0; high = bounds.1 })
 
-  looks-before : (p q : Cond × ℕ) (s t : Subparser) → IsPartOf parent p s → IsPartOf parent q t → p.1 < q.1 → LooksBefore (Going s) (Going t)
-  looks-before p q s t is other below = record { before = λ a b i j first second at_i at_j. by a b i j first second at_i at_j }
+  looks-before : (p q : Cond × ℕ) → p.1 < q.1 → LooksBefore (Going (part_of parent p)) (Going (part_of parent q))
+  looks-before p q below = record { before = λ a b i j first second at_i at_j. by a b i j first second at_i at_j }
     where
-      by : (a b : Subparser) (i j : ℕ) → Going s ≡ Going a → Going t ≡ Going b → a.phase ≡ At i → b.phase ≡ At j → i < j
+      by : (a b : Subparser) (i j : ℕ) → Going (part_of parent p) ≡ Going a → Going (part_of parent q) ≡ Going b → a.phase ≡ At i → b.phase ≡ At j → i < j
       by a b i j first second at_i at_j =
-          let same : s ≡ a = cc in
-          let same_other : t ≡ b = cc in
-          let left : At p.1 ≡ At i = sym is.phase ∙ ap (λ (u : Subparser). u.phase) same ∙ at_i in
-          let right : At q.1 ≡ At j = sym other.phase ∙ ap (λ (u : Subparser). u.phase) same_other ∙ at_j in
+          let same : part_of parent p ≡ a = cc in
+          let same_other : part_of parent q ≡ b = cc in
+          let left : At p.1 ≡ At i = ap (λ (u : Subparser). u.phase) same ∙ at_i in
+          let right : At q.1 ≡ At j = ap (λ (u : Subparser). u.phase) same_other ∙ at_j in
           let left_is : p.1 ≡ i = cc in
           let right_is : q.1 ≡ j = cc in
           subst (λ n. n < j) left_is (subst (λ n. p.1 < n) right_is below)
 
-  before-all : (p : Cond × ℕ) (s : Subparser) (parts : List (Cond × ℕ)) (pieces : List Piece) → IsPartOf parent p s → ArePartsOf parent parts pieces
-      → All (λ (q : Cond × ℕ). p.1 < q.1) parts → All (LooksBefore (Going s)) pieces
-  before-all p s _ _ is no_parts above = All-nil (LooksBefore (Going s))
-  before-all p s _ _ is (more_parts q parts t pieces other rest) above =
-      All-cons (LooksBefore (Going s)) (Going t) pieces (looks-before p q s t is other (All-head (λ (r : Cond × ℕ). p.1 < r.1) q parts above))
-      (before-all p s parts pieces is rest (All-tail (λ (r : Cond × ℕ). p.1 < r.1) q parts above))
-
-  pub parts-rise : (parts : List (Cond × ℕ)) (pieces : List Piece) → ArePartsOf parent parts pieces → AllPairs (λ (a b : Cond × ℕ). a.1 < b.1) parts → AllPairs LooksBefore pieces
-  parts-rise _ _ no_parts rising = λ i j d low below. absurd (omega (arith, below))
-  parts-rise _ _ (more_parts p parts s pieces is rest) rising =
-      AllPairs-cons LooksBefore (Going s) pieces (before-all p s parts pieces is rest (rising-head p parts rising)) (parts-rise parts pieces rest (rising-tail p parts rising))
+  pub parts-rise : (parts : List (Cond × ℕ)) → AllPairs (λ (a b : Cond × ℕ). a.1 < b.1) parts → AllPairs LooksBefore (parts_of parent parts)
+  parts-rise [] rising = λ i j d low below. absurd (omega (arith, below))
+  parts-rise (p ∷ parts) rising =
+      let above = rising-head p parts rising in
+      AllPairs-cons LooksBefore (Going (part_of parent p)) (parts_of parent parts)
+      (All-map (LooksBefore (Going (part_of parent p))) (λ (q : Cond × ℕ). Going (part_of parent q)) parts (λ k d below. looks-before p (get_or parts k d) (above k d below)))
+      (parts-rise parts (rising-tail p parts rising))
 
 -- ---- kinds
 

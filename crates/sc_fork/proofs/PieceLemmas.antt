@@ -1,5 +1,6 @@
 -- What an event makes of its subparsers, by what the functions of the events promise.
 use Rattle.std.proofs.Common.{◌≡◌, ℕ, zero, suc, ◌⊎◌, inl, inr, List, [], ◌∷◌, ◌++◌, length, map, get_or, slice_get, is_some, Option, Some, All, sym, ap, ◌∙◌, subst}
+use Rattle.std.specs.Prelude.{Result, Ok, Err, IfOk}
 use Rattle.std.proofs.lemmas.List.Elements.{All-nil, All-cons}
 use Rattle.std.proofs.lemmas.Option.{slice_get_within, get_or_from_slice_get}
 use Rattle.lr_tables.proofs.Stacks.{same_symbols}
@@ -72,6 +73,11 @@ merged-row old new count more source s m is own alike owns trees = record {
       let p = own.path c11 in
       record { symbols = p.symbols; path = subst (λ states. Path c11.are.grammar c11.states states p.symbols) (sym alike.states) p.path; trees = trees ∙ p.trees };
 }
+
+-- what is so of the piece is so of what was made, where there was memory for it
+pub if-made : {E : Type 0} (P : Piece → Type 0) (made : Result Piece E) (piece : Piece) → IfOk made (λ p. p ≡ piece) → P piece → IfOk made P
+if-made P (Ok p) piece is holds = subst P (sym is) holds
+if-made P (Err e) piece is holds = tt
 
 -- ---- new choices
 

@@ -15,7 +15,7 @@ use Rattle.sc_base.specs.declared.id.Cond.{Cond}
 use Rattle.sc_base.specs.declared.token.Token as base
 use Rattle.sc_base.specs.Seen.{seen as seen_token}
 use Rattle.sc_guarded.specs.Items.{items_at}
-use Rattle.std.proofs.lemmas.List.{get_or-map, length-map, take_more, take_all}
+use Rattle.std.proofs.lemmas.List.{get_or-map, length-map, map-append, take_more, take_all}
 use Rattle.std.proofs.lemmas.List.Elements.{All-map}
 use Rattle.std.proofs.Common.{length-drop}
 use Rattle.sc_base.proofs.Growth.{Extends-refl}
@@ -26,18 +26,15 @@ use Rattle.sc_fork.specs.declared.piece.Piece.TheVariants.{Going}
 use Rattle.sc_fork.specs.declared.source.Source.{Source}
 use Rattle.sc_merge.specs.declared.subparser.Phase.TheVariants.{Between}
 use Rattle.sc_merge.specs.declared.subparser.Subparser.{Subparser}
-use Rattle.sc_merge.specs.Merges.{OwnsValues, tables_with}
+use Rattle.sc_merge.specs.Merges.{tables_with}
 use Rattle.sc_merge.specs.Phases.{phase_of}
-use Rattle.sc_fork.specs.Owns.{IsOnPath, IsWithin, OwnsPiece, OwnsRow}
-use Rattle.sc_fork.specs.Seen.{IsInput, IsNext, next_element, next_end, IsSeen, IsSeenAt, going_seen, AreSeen, none_seen, more_seen, Events, IsPartOf, ArePartsOf, no_parts, more_parts}
-use Rattle.sc_merge.specs.Shows.{ValuesRead}
+use Rattle.sc_fork.specs.Owns.{OwnsPiece, OwnsRow}
+use Rattle.sc_fork.specs.Seen as pieces
+use Rattle.sc_fork.specs.Seen.{IsInput, IsNext, next_element, next_end, IsSeen, IsSeenAt, going_seen, AreSeen, none_seen, more_seen, Events, part_of}
 use Rattle.sc_guarded.specs.Next.{next_at}
 use Rattle.sc_model.specs.Token.{Token}
-use Rattle.sc_scope.specs.Search.{OwnsLevels}
 use Rattle.sc_scope.specs.Seen.{levels_in}
-use Rattle.sc_scope.specs.Shows.{Shows}
 use Rattle.sc_scope.proofs.OwnLemmas.{own-Keeps}
-use Rattle.sc_stack.specs.Entries.{Entry, states_of, values_of}
 use Rattle.sc_tree.specs.Lines.{Line}
 use Rattle.sc_model.specs.Sets.{Sets, IsConfig, IsCond, Keeps, IsNever}
 
@@ -77,7 +74,7 @@ rising-tail p parts rising = λ i j d low below. rising (suc i) (suc j) d (omega
 not-same : (k n : ℕ) → (k ≡ n → ⊥) → (k == n) ≡ false
 not-same k n h = elim (eqb_tells k n) [ inl same ↦ absurd (h same.1) | inr other ↦ other.0 ]
 
-same-number : (n : ℕ) → (n == n) ≡ true
+pub same-number : (n : ℕ) → (n == n) ≡ true
 same-number n = grind (arith, nat_tests)
 
 abbrev Belongs : Sets → List ℕ → Bool → ℕ → Cond × ℕ → Type 0
@@ -183,24 +180,21 @@ next-at input from k c within same = elim (position-found (λ (item : Condition 
   | inr end ↦ let last : length input.items ≡ k = omega (arith, within, same, end, length-drop from input.items) in subst (λ n. IsNext input c (at n)) last next_end
 ]
 
-seen-part : (old new : Sets) (names files : List (List ℕ)) (lines : List Line) (input : Input) (parent s : Subparser) (t : core.Subparser) (p : Cond × ℕ) (from : ℕ)
-    → Keeps old new → input.arities ≡ old.arities → from ≤ length input.items → IsSeen (tables_with old lines names files) input parent t → IsPartOf parent p s → IsCond new p.0.0 → IsPossible input (new.has p.0.0)
+seen-part : (old new : Sets) (names files : List (List ℕ)) (lines : List Line) (input : Input) (parent : Subparser) (t : core.Subparser) (p : Cond × ℕ) (from : ℕ)
+    → Keeps old new → input.arities ≡ old.arities → from ≤ length input.items → IsSeen (tables_with old lines names files) input parent t → IsCond new p.0.0 → IsPossible input (new.has p.0.0)
     → Has input (new.has p.0.0) (λ c. t.condition c && next_from input from c == p.1)
-    → IsSeen (tables_with new lines names files) input s (record t { condition = new.has p.0.0; phase = at p.1 })
-seen-part old new names files lines input parent s t p from keeps arities within seen is own possible has = record {
-  owns = record {
-    cond = subst (λ (k : Cond). IsCond new k.0) (sym is.cond) own;
-    values = subst (λ (es : List Entry). OwnsValues (length lines) (values_of es)) (sym is.stack) seen.owns.values;
-    levels = subst (λ ls. OwnsLevels new ls) (sym is.levels) (own-Keeps old new (levels_in parent.scopes) keeps seen.owns.levels);
-  };
-  has = λ c config. ap (λ (k : Cond). new.has k.0 c) (sym is.cond);
+    → IsSeen (tables_with new lines names files) input (part_of parent p) (record t { condition = new.has p.0.0; phase = at p.1 })
+seen-part old new names files lines input parent t p from keeps arities within seen own possible has = record {
+  owns = record { cond = own; values = seen.owns.values; levels = own-Keeps old new (levels_in parent.scopes) keeps seen.owns.levels };
+  has = λ c config. refl;
   possible = possible;
-  phase = ap phase_of (sym is.phase);
-  states = seen.states ∙ ap states_of (sym is.stack);
+  phase = refl;
+  states = seen.states;
   each = each;
 }
   where
-    each : (c : List ℕ) → IsConfig input.arities c → new.has p.0.0 c ≡ true → IsSeenAt (tables_with new lines names files) input s (record t { condition = new.has p.0.0; phase = at p.1 }) c
+    each : (c : List ℕ) → IsConfig input.arities c → new.has p.0.0 c ≡ true
+        → IsSeenAt (tables_with new lines names files) input (part_of parent p) (record t { condition = new.has p.0.0; phase = at p.1 }) c
     each c config holds =
         let both : (t.condition c && next_from input from c == p.1) ≡ true = sym (has c config) ∙ holds in
         let was = seen.each c config (and-left (t.condition c) (next_from input from c == p.1) both) in
@@ -208,59 +202,48 @@ seen-part old new names files lines input parent s t p from keeps arities within
         let grown = ShowsAt-Grows (tables_with old lines names files) (tables_with new lines names files) c (record { sets = keeps; names = Extends-refl names; files = Extends-refl files; lines = Extends-refl lines }) listed
         parent (t.trees c) (t.levels c) refl seen.owns.levels was.shows in
         record {
-          shows = record {
-            values = subst (λ (es : List Entry). ValuesRead (tables_with new lines names files) c (values_of es) (t.trees c)) (sym is.stack) grown.values;
-            scopes = subst (λ ls. Shows new names c ls (t.levels c)) (sym is.levels) grown.scopes;
-          };
+          shows = record { values = grown.values; scopes = grown.scopes };
           next = next-at input from p.1 c within (eqb-true (next_from input from c) p.1 (and-right (t.condition c) (next_from input from c == p.1) both));
         }
 
-seen-parts : (old new : Sets) (names files : List (List ℕ)) (lines : List Line) (input : Input) (parent : Subparser) (t : core.Subparser) (parts : List (Cond × ℕ)) (pieces : List kept.Piece) (from : ℕ)
-    → Keeps old new → input.arities ≡ old.arities → from ≤ length input.items → IsSeen (tables_with old lines names files) input parent t → ArePartsOf parent parts pieces
-    → All (λ (p : Cond × ℕ). IsCond new p.0.0) parts → All (λ (p : Cond × ℕ). IsPossible input (new.has p.0.0)) parts
-    → All (λ (p : Cond × ℕ). Has input (new.has p.0.0) (λ c. t.condition c && next_from input from c == p.1)) parts
-    → AreSeen (tables_with new lines names files) input pieces (map (part t) (parts_of new parts))
-seen-parts old new names files lines input parent t _ _ from keeps arities within seen no_parts own possible has = none_seen
-seen-parts old new names files lines input parent t _ _ from keeps arities within seen (more_parts p parts s pieces first rest) own possible has =
+seen-parts : (old new : Sets) (names files : List (List ℕ)) (lines : List Line) (input : Input) (parent : Subparser) (t : core.Subparser) (parts : List (Cond × ℕ)) (from : ℕ)
+    → Keeps old new → input.arities ≡ old.arities → from ≤ length input.items → IsSeen (tables_with old lines names files) input parent t → All (λ (p : Cond × ℕ). IsCond new p.0.0) parts
+    → All (λ (p : Cond × ℕ). IsPossible input (new.has p.0.0)) parts → All (λ (p : Cond × ℕ). Has input (new.has p.0.0) (λ c. t.condition c && next_from input from c == p.1)) parts
+    → AreSeen (tables_with new lines names files) input (pieces.parts_of parent parts) (map (part t) (parts_of new parts))
+seen-parts old new names files lines input parent t [] from keeps arities within seen own possible has = none_seen
+seen-parts old new names files lines input parent t (p ∷ parts) from keeps arities within seen own possible has =
     let Own : Cond × ℕ → Type 0 = λ q. IsCond new q.0.0 in
     let Possible : Cond × ℕ → Type 0 = λ q. IsPossible input (new.has q.0.0) in
     let Holds : Cond × ℕ → Type 0 = λ q. Has input (new.has q.0.0) (λ c. t.condition c && next_from input from c == q.1) in
-    more_seen (Going s) (going (record t { condition = new.has p.0.0; phase = at p.1 })) pieces (map (part t) (parts_of new parts))
-    (going_seen s (record t { condition = new.has p.0.0; phase = at p.1 })
-    (seen-part old new names files lines input parent s t p from keeps arities within seen first (All-head Own p parts own) (All-head Possible p parts possible) (All-head Holds p parts has)))
-    (seen-parts old new names files lines input parent t parts pieces from keeps arities within seen rest (All-tail Own p parts own) (All-tail Possible p parts possible) (All-tail Holds p parts has))
+    more_seen (Going (part_of parent p)) (going (record t { condition = new.has p.0.0; phase = at p.1 })) (pieces.parts_of parent parts) (map (part t) (parts_of new parts))
+    (going_seen (part_of parent p) (record t { condition = new.has p.0.0; phase = at p.1 })
+    (seen-part old new names files lines input parent t p from keeps arities within seen (All-head Own p parts own) (All-head Possible p parts possible) (All-head Holds p parts has)))
+    (seen-parts old new names files lines input parent t parts from keeps arities within seen (All-tail Own p parts own) (All-tail Possible p parts possible) (All-tail Holds p parts has))
 
-part-push : (parent s : Subparser) (p : Cond × ℕ) (parts : List (Cond × ℕ)) (pieces : List kept.Piece) → ArePartsOf parent parts pieces → IsPartOf parent p s
-    → ArePartsOf parent (parts ++ p ∷ []) (pieces ++ Going s ∷ [])
-part-push parent s p _ _ no_parts is = more_parts p [] s [] is no_parts
-part-push parent s p _ _ (more_parts q parts r pieces first rest) is = more_parts q (parts ++ p ∷ []) r (pieces ++ Going s ∷ []) first (part-push parent s p parts pieces rest is)
-
-pub part-none : (parent : Subparser) (pieces : List kept.Piece) → pieces ≡ [] → ArePartsOf parent [] pieces
-part-none parent pieces none = subst (λ ps. ArePartsOf parent [] ps) (sym none) no_parts
-
-pub part-more : (parent s : Subparser) (parts : List (Cond × ℕ)) (i : ℕ) (z : Cond × ℕ) (before after : List kept.Piece) → i < length parts → ArePartsOf parent (take i parts) before
-    → IsPartOf parent (get_or parts i z) s → after ≡ before ++ Going s ∷ [] → ArePartsOf parent (take (i + 1) parts) after
+pub part-more : (parent s : Subparser) (parts : List (Cond × ℕ)) (i : ℕ) (z : Cond × ℕ) (before after : List kept.Piece) → i < length parts → before ≡ pieces.parts_of parent (take i parts)
+    → s ≡ part_of parent (get_or parts i z) → after ≡ before ++ Going s ∷ [] → after ≡ pieces.parts_of parent (take (i + 1) parts)
 part-more parent s parts i z before after within are is added =
-    subst (λ ps. ArePartsOf parent (take (i + 1) parts) ps) (sym added)
-    (subst (λ qs. ArePartsOf parent qs (before ++ Going s ∷ [])) (sym (take_more parts i z within)) (part-push parent s (get_or parts i z) (take i parts) before are is))
+    let piece : Cond × ℕ → kept.Piece = λ p. Going (part_of parent p) in
+    added ∙ ap (λ ps. ps ++ Going s ∷ []) are ∙ ap (λ x. pieces.parts_of parent (take i parts) ++ Going x ∷ []) is
+    ∙ sym (map-append piece (take i parts) (get_or parts i z ∷ [])) ∙ ap (map piece) (sym (take_more parts i z within))
 
-pub part-all : (parent : Subparser) (found parts : List (Cond × ℕ)) (i : ℕ) (pieces : List kept.Piece) → found ≡ parts → length found ≤ i → ArePartsOf parent (take i found) pieces
-    → ArePartsOf parent parts pieces
-part-all parent found parts i pieces same end are = subst (λ qs. ArePartsOf parent qs pieces) (take_all i found end ∙ same) are
+pub part-all : (parent : Subparser) (found parts : List (Cond × ℕ)) (i : ℕ) (all : List kept.Piece) → found ≡ parts → length found ≤ i → all ≡ pieces.parts_of parent (take i found)
+    → all ≡ pieces.parts_of parent parts
+part-all parent found parts i all same end are = are ∙ ap (pieces.parts_of parent) (take_all i found end ∙ same)
 
-pub split-events : (old new : Sets) (lines : List Line) (source : Source) (parent : Subparser) (from : ℕ) (parts : List (Cond × ℕ)) (pieces : List kept.Piece) → parent.phase ≡ Between from
+pub split-events : (old new : Sets) (lines : List Line) (source : Source) (parent : Subparser) (from : ℕ) (parts : List (Cond × ℕ)) → parent.phase ≡ Between from
     → from ≤ length source.list.now → Keeps old new
     → ((c : List ℕ) → IsConfig old.arities c → items_at new parts c ≡ (if old.has parent.cond.0 c then (from + next_at old (drop from source.list.now) c) ∷ [] else []))
-    → All (λ (p : Cond × ℕ). IsNever new p.0.0 → ⊥) parts → AllPairs (λ (a b : Cond × ℕ). a.1 < b.1) parts → All (λ (p : Cond × ℕ). IsCond new p.0.0) parts → ArePartsOf parent parts pieces
-    → Events old new lines lines source parent core.split pieces
-split-events old new lines source parent from parts pieces phase within keeps next some rising own are = λ names files input t is seen. by names files input t is seen
+    → All (λ (p : Cond × ℕ). IsNever new p.0.0 → ⊥) parts → AllPairs (λ (a b : Cond × ℕ). a.1 < b.1) parts → All (λ (p : Cond × ℕ). IsCond new p.0.0) parts
+    → Events old new lines lines source parent core.split (pieces.parts_of parent parts)
+split-events old new lines source parent from parts phase within keeps next some rising own = λ names files input t is seen. by names files input t is seen
   where
     by : (names files : List (List ℕ)) (input : Input) (t : core.Subparser) → IsInput (tables_with old lines names files) source input → IsSeen (tables_with old lines names files) input parent t
-        → (qs : List Piece) × (Makes input t core.split qs × AreSeen (tables_with new lines names files) input pieces qs)
+        → (qs : List Piece) × (Makes input t core.split qs × AreSeen (tables_with new lines names files) input (pieces.parts_of parent parts) qs)
     by names files input t is seen =
         let Holds : Cond × ℕ → Type 0 = λ p. Has input (new.has p.0.0) (λ c. t.condition c && next_from input from c == p.1) in (
           map (part t) (parts_of new parts),
-          (splits from (parts_of new parts) (seen.phase ∙ ap phase_of phase) are_parts, seen-parts old new names files lines input parent t parts pieces from keeps is.arities long seen are own possible_all holds),
+          (splits from (parts_of new parts) (seen.phase ∙ ap phase_of phase) are_parts, seen-parts old new names files lines input parent t parts from keeps is.arities long seen own possible_all holds),
         )
       where
         same_length : length input.items ≡ length source.list.now
@@ -324,32 +307,18 @@ parts-within old new source parent from parts within keeps next some rising = λ
     let least : from ≤ n = omega arith in
     (subst (λ m. from ≤ m) same least, subst (λ m. m ≤ length source.list.now) same most)
 
-own-part : (old new : Sets) (count : ℕ) (source : Source) (parent s : Subparser) (p : Cond × ℕ) → Keeps old new → OwnsRow old count source parent → IsPartOf parent p s → IsCond new p.0.0
-    → p.1 ≤ length source.list.now → OwnsRow new count source s
-own-part old new count source parent s p keeps owns is own within = record {
-  owns = record {
-    cond = subst (λ (k : Cond). IsCond new k.0) (sym is.cond) own;
-    values = subst (λ (es : List Entry). OwnsValues count (values_of es)) (sym is.stack) owns.owns.values;
-    levels = subst (λ ls. OwnsLevels new ls) (sym is.levels) (own-Keeps old new (levels_in parent.scopes) keeps owns.owns.levels);
-  };
-  within = subst (IsWithin (length source.list.now)) (sym is.phase) within;
-  path = λ c11. subst (λ (es : List Entry). IsOnPath c11.are.grammar c11.states es) (sym is.stack) (owns.path c11);
+own-part : (old new : Sets) (count : ℕ) (source : Source) (parent : Subparser) (p : Cond × ℕ) → Keeps old new → OwnsRow old count source parent → IsCond new p.0.0
+    → p.1 ≤ length source.list.now → OwnsRow new count source (part_of parent p)
+own-part old new count source parent p keeps owns own within = record {
+  owns = record { cond = own; values = owns.owns.values; levels = own-Keeps old new (levels_in parent.scopes) keeps owns.owns.levels };
+  within = within;
+  path = owns.path;
 }
 
-own-parts : (old new : Sets) (count : ℕ) (source : Source) (parent : Subparser) (parts : List (Cond × ℕ)) (pieces : List kept.Piece) → Keeps old new → OwnsRow old count source parent
-    → ArePartsOf parent parts pieces → All (λ (p : Cond × ℕ). IsCond new p.0.0) parts → All (λ (p : Cond × ℕ). p.1 ≤ length source.list.now) parts → All (OwnsPiece new count source) pieces
-own-parts old new count source parent _ _ keeps owns no_parts own within = All-nil (OwnsPiece new count source)
-own-parts old new count source parent _ _ keeps owns (more_parts p parts s pieces first rest) own within =
-    let Own : Cond × ℕ → Type 0 = λ q. IsCond new q.0.0 in
-    let Within : Cond × ℕ → Type 0 = λ q. q.1 ≤ length source.list.now in
-    All-cons (OwnsPiece new count source) (Going s) pieces (own-part old new count source parent s p keeps owns first (All-head Own p parts own) (All-head Within p parts within))
-    (own-parts old new count source parent parts pieces keeps owns rest (All-tail Own p parts own) (All-tail Within p parts within))
-
-pub split-own : (old new : Sets) (source : Source) (parent : Subparser) (from : ℕ) (parts : List (Cond × ℕ)) (pieces : List kept.Piece) → from ≤ length source.list.now → Keeps old new
+pub split-own : (old new : Sets) (source : Source) (parent : Subparser) (from : ℕ) (parts : List (Cond × ℕ)) → from ≤ length source.list.now → Keeps old new
     → ((c : List ℕ) → IsConfig old.arities c → items_at new parts c ≡ (if old.has parent.cond.0 c then (from + next_at old (drop from source.list.now) c) ∷ [] else []))
-    → All (λ (p : Cond × ℕ). IsNever new p.0.0 → ⊥) parts → AllPairs (λ (a b : Cond × ℕ). a.1 < b.1) parts → All (λ (p : Cond × ℕ). IsCond new p.0.0) parts → ArePartsOf parent parts pieces
-    → (count : ℕ) → OwnsRow old count source parent → All (OwnsPiece new count source) pieces
-split-own old new source parent from parts pieces within keeps next some rising own are count owns = own-parts old new count source parent parts pieces keeps owns are own below
-  where
-    below : All (λ (p : Cond × ℕ). p.1 ≤ length source.list.now) parts
-    below = λ k d inside. (parts-within old new source parent from parts within keeps next some rising k d inside).1
+    → All (λ (p : Cond × ℕ). IsNever new p.0.0 → ⊥) parts → AllPairs (λ (a b : Cond × ℕ). a.1 < b.1) parts → All (λ (p : Cond × ℕ). IsCond new p.0.0) parts
+    → (count : ℕ) → OwnsRow old count source parent → All (OwnsPiece new count source) (pieces.parts_of parent parts)
+split-own old new source parent from parts within keeps next some rising own count owns =
+    All-map (OwnsPiece new count source) (λ (p : Cond × ℕ). Going (part_of parent p)) parts
+    (λ k d inside. own-part old new count source parent (get_or parts k d) keeps owns (own k d inside) (parts-within old new source parent from parts within keeps next some rising k d inside).1)

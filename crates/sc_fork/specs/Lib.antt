@@ -1,3 +1,4 @@
+pub mod Bundles
 pub mod Choices
 pub mod Cores
 pub mod Enabled

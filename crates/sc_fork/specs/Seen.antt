@@ -31,9 +31,6 @@ use Rattle.sc_model.specs.Fault.{Fault, fault_at}
 use Rattle.sc_model.specs.Growth.{IsOneToOne}
 use Rattle.sc_model.specs.Token as plain
 use Rattle.sc_model.specs.Sets.{Sets, IsConfig, IsCond}
-use Rattle.sc_scope.specs.declared.numbers.Numbers.{Numbers}
-use Rattle.sc_scope.specs.Numbered.{HasNumbers}
-use Rattle.sc_scope.specs.Seen.{levels_in}
 use Rattle.sc_stack.specs.Entries.{state_of, states_of}
 use Rattle.sc_tree.specs.Lines.{Line}
 use Rattle.sc_tree.specs.Reads.{Tables, Reads}
@@ -102,18 +99,12 @@ Events old new lines added source s event pieces =
     (names files : List (List ℕ)) (input : Input) (t : core.Subparser) → IsInput (tables_with old lines names files) source input → IsSeen (tables_with old lines names files) input s t
     → (qs : List Piece) × (Makes input t event qs × AreSeen (tables_with new added names files) input pieces qs)
 
--- the stack and levels of the parent, for the configurations for which the element comes next
-pub record IsPartOf (parent : Subparser) (part : Cond × ℕ) (s : Subparser) : Type 0 where
-  pub cond : s.cond ≡ part.0
-  pub stack : s.stack ≡ parent.stack
-  pub levels : levels_in s.scopes ≡ levels_in parent.scopes
-  pub numbered : (numbers : Numbers) → HasNumbers numbers parent.scopes → HasNumbers numbers s.scopes
-  pub phase : s.phase ≡ At part.1
+-- the parent, for the configurations for which the element comes next
+abbrev pub part_of : Subparser → Cond × ℕ → Subparser
+part_of parent part = record parent { cond = part.0; phase = At part.1 }
 
-pub data ArePartsOf (parent : Subparser) : List (Cond × ℕ) → List kept.Piece → Type 0 where
-  no_parts : ArePartsOf parent [] []
-  more_parts : (part : Cond × ℕ) (parts : List (Cond × ℕ)) (s : Subparser) (pieces : List kept.Piece) → IsPartOf parent part s → ArePartsOf parent parts pieces
-      → ArePartsOf parent (part ∷ parts) (Going s ∷ pieces)
+abbrev pub parts_of : Subparser → List (Cond × ℕ) → List kept.Piece
+parts_of parent parts = map (λ (part : Cond × ℕ). Going (part_of parent part)) parts
 
 -- ---- what the tables say
 

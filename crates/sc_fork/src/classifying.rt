@@ -49,6 +49,7 @@ pub(crate) fn classify<C: Conditions>(
     let variables = conds.apply_and(parent.cond, others)?;
     let mut pieces = Vec::new(alloc);
     add_kind(
+        alloc,
         conds,
         &mut pieces,
         source,
@@ -58,6 +59,7 @@ pub(crate) fn classify<C: Conditions>(
         terminal::TYPE,
     )?;
     add_kind(
+        alloc,
         conds,
         &mut pieces,
         source,
@@ -98,6 +100,7 @@ fn typedefs<C: Conditions>(
 
 /// The part of the configurations for which the kind is shifted, where there are any.
 fn add_kind<C: Conditions>(
+    alloc: Global,
     conds: &C,
     pieces: &mut Vec<Piece>,
     source: &Source<'_>,
@@ -123,11 +126,13 @@ fn add_kind<C: Conditions>(
     };
     let mut stack = parent.stack.share()?;
     stack.push(state, None)?;
-    pieces.push(Piece::Going(Subparser {
+    let subparser = Subparser {
         cond,
         stack,
         scopes: parent.scopes.share()?,
         phase: Phase::Between(at + 1),
-    }))?;
+    };
+    let piece = Piece::going(alloc, subparser)?;
+    pieces.push(piece)?;
     Ok(())
 }

@@ -1,9 +1,11 @@
 //! Which events a core can do.
-ghost use Rattle.std.specs.Prelude.{◌≡◌, ℕ, None, Some, IfErr, IfOk, IfSome};
+ghost use Rattle.std.specs.Prelude.{◌≡◌, ℕ, None, Some, IfErr, IfOk, IfSome, OnOk};
 ghost use Rattle.sc_fork.specs.declared.source.Source.{Source};
+ghost use Rattle.sc_fork.specs.Bundles.{AreEnabled, IsFirstRefused};
 ghost use Rattle.sc_fork.specs.Enabled.{Has, IsEnabled, IsMissing, IsNotLooking, IsRefused, LooksAt};
 
-use crate::event::{Event, Fact};
+use crate::event::{Event, Fact, Kind};
+use crate::held::Lent;
 use crate::row::Row;
 use crate::source::Source;
 use lr_tables::Action;
@@ -12,7 +14,7 @@ use sc_merge::{Head, Phase};
 /// An event with the subparsers that it names.
 #[derive(Drop)]
 pub(crate) enum Enabled<'a> {
-    Split(Head<'a>, usize),
+    Split(Lent<'a>, usize),
     Reduce(Head<'a>, usize, usize),
     Shift(Head<'a>, usize),
     Classify(Head<'a>, usize),
@@ -30,8 +32,9 @@ pub(crate) fn enabled_event<'a>(
 {
     match event {
         Event::Split(number) => {
-            let parent = with_number(rows, number)?;
-            match parent.phase {
+            let parent = lent_at(rows, number)?;
+            let whole = parent.head();
+            match whole.phase {
                 Phase::Between(from) => Ok(Enabled::Split(parent, from)),
                 _ => Err(Fact::WrongPhase),
             }
@@ -61,6 +64,27 @@ pub(crate) fn enabled_event<'a>(
     }
 }
 
+/// Whether the events can be done, each in the core as it is, or the first fact that stands against
+/// one.
+pub(crate) fn all_enabled(
+    source: &Source<'_>,
+    rows: &[Row],
+    kind: Kind,
+    members: &[usize],
+) -> Result<(), Fact>
+    ensures ok { OnOk result (AreEnabled source.now rows.now kind members.now) }
+    ensures err { IfErr result (IsFirstRefused source.now rows.now kind members.now) }
+{
+    for at in 0..members.len() {
+        let number = members[at];
+        enabled_event(source, rows, kind.event(number))?;
+        if members[..at].contains(&number) {
+            return Err(Fact::SameSubparser);
+        }
+    }
+    Ok(())
+}
+
 /// The production by which the action reduces.
 fn reduction(action: Option<Action>) -> Option<usize>
     ensures some { IfSome result (λ production. action ≡ Some (Action.Reduce production)) }
@@ -76,11 +100,21 @@ fn with_number(rows: &[Row], number: usize) -> Result<Head<'_>, Fact>
     ensures ok { IfOk result (λ head. Has rows.now number head) }
     ensures err { IfErr result (λ fact. IsMissing rows.now number fact) }
 {
+    match lent_at(rows, number) {
+        Ok(lent) => Ok(lent.head()),
+        Err(fact) => Err(fact),
+    }
+}
+
+fn lent_at(rows: &[Row], number: usize) -> Result<Lent<'_>, Fact>
+    ensures ok { IfOk result (λ lent. Has rows.now number lent) }
+    ensures err { IfErr result (λ fact. IsMissing rows.now number fact) }
+{
     let Some(row) = rows.get(number) else {
         return Err(Fact::NoSuchSubparser);
     };
-    match row.head() {
-        Some(head) => Ok(head),
+    match row.lent() {
+        Some(lent) => Ok(lent),
         None => Err(Fact::NoSuchSubparser),
     }
 }

@@ -1,3 +1,6 @@
+ghost use Rattle.std.specs.Prelude.{◌≡◌};
+ghost use Rattle.sc_fork.specs.Bundles.{event_by};
+
 use std::alloc::Global;
 use thiserror::Error;
 
@@ -9,6 +12,24 @@ pub enum Event {
     Shift(usize),
     Classify(usize),
     Merge(usize, usize),
+}
+
+/// The events that a core can do of several subparsers at once.
+#[derive(Clone, Copy, Debug, PartialEq, Eq)]
+pub enum Kind {
+    Reduce,
+    Shift,
+}
+
+impl Kind {
+    pub(crate) fn event(self, number: usize) -> Event
+        ensures { result ≡ event_by self number }
+    {
+        match self {
+            Kind::Reduce => Event::Reduce(number),
+            Kind::Shift => Event::Shift(number),
+        }
+    }
 }
 
 /// Why an event is not one that a core can do: of these facts the first that applies.

@@ -1,11 +1,12 @@
 //! A parser of all configurations at once, one event at a time.
-ghost use Rattle.std.specs.Prelude.{[], ◌≡◌, ◌↔◌, ◌⊎◌, ℕ, ◌<◌, true, false, Err, List, None, Option, All, IfErr, IfOk, IfSome, IsTrue, length};
+ghost use Rattle.std.specs.Prelude.{[], ◌≡◌, ◌↔◌, ◌⊎◌, ℕ, ◌<◌, true, false, Err, List, None, Option, All, IfErr, IfOk, IfSome, IsTrue, OnOk, length};
 ghost use Rattle.c11_parsing.specs.Classes.{Input};
 ghost use Rattle.c11_parsing.specs.Core as core;
 ghost use Rattle.c11_parsing.specs.Core.{Stands};
 ghost use Rattle.sc_base.specs.Seen.{IsHeld};
 ghost use Rattle.sc_fork.specs.declared.event.Event.{Event};
 ghost use Rattle.sc_fork.specs.declared.event.Fact.{Fact};
+ghost use Rattle.sc_fork.specs.Bundles.{AreEnabled, IsFirstRefused};
 ghost use Rattle.sc_fork.specs.Choices.{AddsLeaves, AreSound};
 ghost use Rattle.sc_fork.specs.Cores.{IsApplied, IsCore, IsFinished, Starts};
 ghost use Rattle.sc_fork.specs.Enabled.{Has, HasNone, IsEnabled, IsRefused, LooksAt};
@@ -23,8 +24,9 @@ ghost use Rattle.sc_scope.specs.Numbered.{levels_made};
 ghost use Rattle.sc_tree.specs.Lines.{Line, OwnsBranches};
 
 use crate::classifying::classify;
-use crate::enabled::{Enabled, enabled_event, looking};
-use crate::event::{Applied, CoreStop, Event};
+use crate::enabled::{Enabled, all_enabled, enabled_event, looking};
+use crate::event::{Applied, CoreStop, Event, Kind};
+use crate::held::Held;
 use crate::outcome::{Outcome, faults_of, root_of, roots_of};
 use crate::piece::{Ended, Piece};
 use crate::reducing::reduce;
@@ -168,7 +170,7 @@ impl<'a> Core<'a> {
         if self.is_given_up {
             return None;
         }
-        let subparser = self.rows.get(number)?.head()?;
+        let subparser = self.rows.get(number)?.lent()?.head();
         Some((subparser.cond, key(&subparser)))
     }
 
@@ -188,6 +190,30 @@ impl<'a> Core<'a> {
         ensures { IsTrue result ↔ IsFinished self.now }
     {
         !self.is_given_up && self.rows.iter().all(|row| row.is_gone())
+    }
+
+    /// Whether the core can do these events, in the order of what stands against one.
+    pub(crate) fn can_do_all(&self, kind: Kind, members: &[usize]) -> Result<(), CoreStop>
+        ensures ok { OnOk result ((self.now.is_given_up ≡ false) × AreEnabled self.now.source self.now.subparsers kind members.now) }
+        ensures not_enabled { (fact : Fact) → result ≡ Err (CoreStop.NotEnabled fact)
+            → IsFirstRefused self.now.source self.now.subparsers kind members.now fact }
+        ensures given_up { (result ≡ Err CoreStop.GivenUp) ↔ (self.now.is_given_up ≡ true) }
+        ensures memory { result ≡ Err CoreStop.OutOfMemory → ⊥ }
+    {
+        if self.is_given_up {
+            return Err(CoreStop::GivenUp);
+        }
+        match all_enabled(&self.source, &self.rows, kind, members) {
+            Ok(()) => Ok(()),
+            Err(fact) => Err(CoreStop::NotEnabled { fact }),
+        }
+    }
+
+    /// Nothing is kept by the core any more.
+    pub(crate) fn give_up(&mut self)
+        ensures { self.new ≡ record self.old { is_given_up = true } }
+    {
+        self.is_given_up = true;
     }
 
     /// What a finished core has come to: one tree with choices, and the faults.
@@ -229,7 +255,8 @@ fn first_rows<C: Conditions>(alloc: Global, conds: &C, live: Cond) -> Result<Vec
         return Ok(Vec::new(alloc));
     }
     let subparser = first(alloc, live)?;
-    let row = Row::new(alloc, subparser)?;
+    let held = Held::new(alloc, subparser)?;
+    let row = Row::new(alloc, held)?;
     Ok(vec![in alloc; row]?)
 }
 
@@ -262,9 +289,9 @@ fn replace(
     let mut made = Vec::new(alloc);
     for piece in pieces {
         match piece {
-            Piece::Going(subparser) => {
+            Piece::Going(held) => {
                 made.push(rows.len())?;
-                let row = Row::new(alloc, subparser)?;
+                let row = Row::new(alloc, held)?;
                 rows.push(row)?;
             }
             Piece::Over(part) => ended.push(part)?,
@@ -334,7 +361,8 @@ fn pieces_of<C: Conditions>(
         Enabled::Classify(parent, at) => classify(alloc, conds, source, &parent, at),
         Enabled::Merge(left, right) => {
             let merged = merge(alloc, conds, trees, numbers, &left, &right)?;
-            Ok(vec![in alloc; Piece::Going(merged)]?)
+            let piece = Piece::going(alloc, merged)?;
+            Ok(vec![in alloc; piece]?)
         }
     }
 }

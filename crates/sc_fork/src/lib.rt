@@ -1,10 +1,12 @@
 //! Subparsers that fork where configurations differ, and are merged where they are alike.
 #![tactic(auto)]
 
+mod bundles;
 mod classifying;
 mod enabled;
 mod event;
 mod fork;
+mod held;
 mod laws;
 mod outcome;
 mod piece;
@@ -14,7 +16,7 @@ mod shifting;
 mod source;
 mod splitting;
 
-pub use event::{Applied, CoreStop, Event, Fact};
+pub use event::{Applied, CoreStop, Event, Fact, Kind};
 pub use fork::Core;
 pub use laws::core_stays_in_grown_stores;
 pub use outcome::Outcome;

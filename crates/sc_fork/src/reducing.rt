@@ -73,12 +73,13 @@ pub(crate) fn reduce<C: Conditions>(
     let value = value_of(alloc, trees, number, &values)?;
     stack.push(state, value)?;
     let scopes = marked_scopes(alloc, conds, trees, numbers, parent, rule.mark, value)?;
-    Ok(Piece::Going(Subparser {
+    let subparser = Subparser {
         cond: parent.cond,
         stack,
         scopes,
         phase: parent.phase,
-    }))
+    };
+    Piece::going(alloc, subparser)
 }
 
 /// How many symbols the right side has.

@@ -1,5 +1,5 @@
+use crate::held::{Held, Lent};
 use sc_base::OutOfMemory;
-use sc_merge::{Head, Subparser};
 use std::alloc::Global;
 use std::marker::Model;
 
@@ -7,43 +7,43 @@ use std::marker::Model;
 /// numbers than subparsers, so each subparser is in a box.
 #[derive(Drop)]
 pub(crate) struct Row {
-    subparser: Option<Box<Subparser>>,
+    held: Option<Box<Held>>,
 }
 
 impl Model for Row {
     ghost use Rattle.std.specs.Prelude.{Option, option_map};
     ghost use Rattle.std.specs.Coded.{codes};
-    ghost use Rattle.sc_merge.specs.contracts.subparser.Subparser as held;
+    ghost use Rattle.sc_merge.specs.contracts.subparser.Subparser as subparser;
     ghost use Rattle.sc_merge.specs.declared.subparser.Subparser.{Subparser};
 
     ghost Value = { Option Subparser };
 
-    ghost coded = { Prim.hlevel (codes, held.the_row.coded) };
+    ghost coded = { Prim.hlevel (codes, subparser.the_row.coded) };
 
-    ghost view = { λ row. option_map (λ held. held.value) row.subparser };
+    ghost view = { λ row. option_map (λ held. held.value) row.held };
 }
 
 impl Row {
     ghost use Rattle.std.specs.Prelude.{◌≡◌, ◌↔◌, None, Some, IfOk, IsTrue};
 
-    pub(crate) fn new(alloc: Global, subparser: Subparser) -> Result<Row, OutOfMemory>
-        ensures { IfOk result (λ row. row ≡ Some subparser) }
+    pub(crate) fn new(alloc: Global, held: Held) -> Result<Row, OutOfMemory>
+        ensures { IfOk result (λ row. row ≡ Some held) }
     {
-        let subparser = Some(Box::new(alloc, subparser)?);
-        Ok(Row { subparser })
+        let held = Some(Box::new(alloc, held)?);
+        Ok(Row { held })
     }
 
     pub(crate) fn gone() -> Row
         ensures { result ≡ None }
     {
-        Row { subparser: None }
+        Row { held: None }
     }
 
-    pub(crate) fn head(&self) -> Option<Head<'_>>
+    pub(crate) fn lent(&self) -> Option<Lent<'_>>
         ensures { result ≡ self.now }
     {
-        match &self.subparser {
-            Some(subparser) => Some(subparser.head()),
+        match &self.held {
+            Some(held) => Some(Lent { held }),
             None => None,
         }
     }
@@ -51,6 +51,6 @@ impl Row {
     pub(crate) fn is_gone(&self) -> bool
         ensures { IsTrue result ↔ self.now ≡ None }
     {
-        self.subparser.is_none()
+        self.held.is_none()
     }
 }

@@ -61,7 +61,7 @@ pub(crate) fn shift(
     };
     if at < source.list.len() {
         let shifted = shift_token(trees, source, parent, at, terminal, state)?;
-        Ok(Piece::Going(shifted))
+        Piece::going(alloc, shifted)
     } else {
         Ok(Piece::Over(accept(alloc, trees, parent)?))
     }

@@ -3,16 +3,17 @@ ghost use Rattle.std.specs.Prelude.{◌≡◌, ◌≤◌, ℕ, List, All, AllPai
 ghost use Rattle.c11_parsing.specs.Core as core;
 ghost use Rattle.sc_fork.specs.Owns.{IsNumbered, OwnsPiece, OwnsRow};
 ghost use Rattle.sc_fork.specs.Pieces.{IfGoing, LooksBefore, LooksFrom};
-ghost use Rattle.sc_fork.specs.Seen.{Events, IsPartOf, ArePartsOf};
+ghost use Rattle.sc_fork.specs.Seen.{Events};
 ghost use Rattle.sc_model.specs.Sets.{IsCond, Keeps};
 ghost use Rattle.sc_scope.specs.declared.numbers.Numbers.{Numbers};
 ghost use Rattle.sc_scope.specs.Numbered.{HasNumbers};
 ghost use Rattle.sc_tree.specs.Lines.{Line};
 
+use crate::held::Lent;
 use crate::piece::Piece;
 use crate::source::Source;
-use sc_base::{Cond, OutOfMemory};
-use sc_merge::{Head, Phase, Subparser};
+use sc_base::OutOfMemory;
+use sc_merge::Phase;
 use sc_presence::Conditions;
 use std::alloc::Global;
 
@@ -21,7 +22,7 @@ pub(crate) fn split<C: Conditions>(
     alloc: Global,
     conds: &mut C,
     source: &Source<'_>,
-    parent: &Head<'_>,
+    parent: &Lent<'_>,
     from: usize,
 ) -> Result<Vec<Piece>, OutOfMemory>
     requires phase { parent.now.phase ≡ Phase.Between from }
@@ -39,25 +40,14 @@ pub(crate) fn split<C: Conditions>(
     // at every outcome
     ensures keeps { Keeps (C.sets conds.old) (C.sets conds.new) }
 {
-    let Ok(parts) = source.list.follow(alloc, conds, from, parent.cond) else {
+    let whole = parent.head();
+    let Ok(parts) = source.list.follow(alloc, conds, from, whole.cond) else {
         return Err(OutOfMemory);
     };
     let mut pieces = Vec::new(alloc);
     for part in &parts {
-        let subparser = part_of(parent, part.0, part.1)?;
-        pieces.push(Piece::Going(subparser))?;
+        let held = parent.part(part.0, Phase::At(part.1))?;
+        pieces.push(Piece::Going(held))?;
     }
     Ok(pieces)
-}
-
-/// The part of a subparser for which the element comes next.
-fn part_of(parent: &Head<'_>, cond: Cond, next: usize) -> Result<Subparser, OutOfMemory>
-    ensures { IfOk result (IsPartOf parent.now (cond, next)) }
-{
-    Ok(Subparser {
-        cond,
-        stack: parent.stack.share()?,
-        scopes: parent.scopes.share()?,
-        phase: Phase::At(next),
-    })
 }

@@ -10,7 +10,7 @@ use Rattle.sc_base.specs.declared.id.Cond.{Cond}
 use Rattle.sc_base.specs.declared.id.Name.{Name}
 use Rattle.sc_base.specs.declared.place.Place.{Place}
 use Rattle.sc_base.specs.declared.token.Token.{Token}
-use Rattle.sc_fork.proofs.ChoiceLemmas.{append_cases, leaves-none}
+use Rattle.sc_fork.proofs.ChoiceLemmas.{leaves-none, leaves-then}
 use Rattle.sc_fork.specs.Choices.{AddsLeaves}
 use Rattle.sc_fork.specs.declared.source.Source.{Source}
 use Rattle.sc_fork.specs.Enabled.{Has}
@@ -24,18 +24,6 @@ use Rattle.sc_parse.specs.Numbers.{Replaces, times}
 use Rattle.sc_parse.specs.Runs.{AreWaiting, GoesOn, IsRun, IsWaiting, OwnsSteps}
 use Rattle.sc_parse.proofs.NumberLemmas.{all-times, times-all}
 use Rattle.sc_tree.specs.Lines.{Line, leaf, OwnsBranches}
-
-pub leaves-then : (list : List (Cond × Token)) (one two three : List Line) → AddsLeaves list one two → AddsLeaves list two three → AddsLeaves list one three
-leaves-then list one two three first second = record {
-  added = first.added ++ second.added;
-  is = second.is ∙ ap (λ ls. ls ++ second.added) first.is ∙ append_assoc one first.added second.added;
-  leaves = λ i place spelling at. by i place spelling (append_cases first.added second.added i (leaf place spelling) at);
-}
-  where
-    by : (i : ℕ) (place : Place) (spelling : Name) → (slice_get first.added i ≡ Some (leaf place spelling)) ⊎ ((j : ℕ) × (slice_get second.added j ≡ Some (leaf place spelling)))
-        → (item : Cond × Token) × (Contains list item × (item.1.place ≡ place × item.1.spelling ≡ spelling))
-    by i place spelling (inl at) = first.leaves i place spelling at
-    by i place spelling (inr later) = second.leaves later.0 place spelling later.1
 
 pub goes-nowhere : (sets : Sets) (lines : List Line) (place : ℕ) (s : Steps) → OwnsSteps sets (length lines) s → OwnsBranches sets lines → GoesOn sets sets lines lines place s s
 goes-nowhere sets lines place s own branches = record {

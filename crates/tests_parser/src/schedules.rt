@@ -5,7 +5,7 @@ ghost use Rattle.sc_tree.specs.Lines.{OwnsBranches};
 use crate::parse::{END, TYPE_OR_VARIABLE, c11_tables, checks_nodes, list_of};
 use lr_tables::Action;
 use sc_base::{Cond, Names};
-use sc_fork::{Core, CoreStop, Event, Fact};
+use sc_fork::{Applied, Core, CoreStop, Event, Fact, Kind};
 use sc_lalr::Tables;
 use sc_merge::Phase;
 use sc_model::Standard;
@@ -76,6 +76,27 @@ fn checks_refusal<C: Conditions>(
     assert_eq!(rt; seen(core, number), before);
 }
 
+/// Does the event: a reduction or a shift as one of a list.
+fn apply_event<C: Conditions>(
+    alloc: Global,
+    conds: &mut C,
+    trees: &mut Trees,
+    core: &mut Core<'_>,
+    event: Event,
+) -> Result<Applied, CoreStop>
+    requires own { OwnsCore (C.sets conds.old) (length trees.old) core.old }
+    requires branches { OwnsBranches (C.sets conds.old) trees.old }
+    ensures own { OwnsCore (C.sets conds.new) (length trees.new) core.new }
+    ensures branches { OwnsBranches (C.sets conds.new) trees.new }
+    ensures arities { (C.sets conds.new).arities ≡ (C.sets conds.old).arities }
+{
+    match event {
+        Event::Reduce(number) => core.apply_all(alloc, conds, trees, Kind::Reduce, &[number]),
+        Event::Shift(number) => core.apply_all(alloc, conds, trees, Kind::Shift, &[number]),
+        event => core.apply(alloc, conds, trees, event),
+    }
+}
+
 /// Does the event of the subparser, and adds the numbers of those that are made.
 fn step<C: Conditions>(
     alloc: Global,
@@ -94,7 +115,7 @@ fn step<C: Conditions>(
     let Some(event) = event_of(core, number) else {
         return Err(Fail::new("a subparser without an event"));
     };
-    let applied = core.apply(alloc, conds, trees, event)?;
+    let applied = apply_event(alloc, conds, trees, core, event)?;
     for made in &applied.made {
         numbers.push_back(*made)?;
     }

@@ -1,4 +1,4 @@
-use Rattle.std.proofs.Common.{[], ◌∷◌, None, refl, ap, sym, ◌∙◌}
+use Rattle.std.proofs.Common.{[], ◌∷◌, ◌++◌, None, refl, ap, sym, ◌∙◌}
 use Rattle.std.proofs.lemmas.Bool.{iff_false}
 use Rattle.std.proofs.lemmas.List.{append-nil}
 use Rattle.sc_fork.proofs.KindLemmas.{adds-shifted}
@@ -21,7 +21,7 @@ returns-in_default g c = record {
 pub returns : goal.returns
 returns g c =
     adds-shifted (g.C.Conditions.sets c.args.conds.now) c.args.source.now c.args.parent.now c.args.at c.args.cond c.args.kind.0 c.args.pieces.now.items c.push-3.new.self.items c.in-Some.state _
-    c.in_ok-push-3.ensures.items (iff_false c.is_never.ensures c.if-is_never.false) (sym c.state_after.ensures ∙ c.in-Some.is)
+    (c.in_ok-push-3.ensures.items ∙ ap (λ piece. c.args.pieces.now.items ++ piece ∷ []) c.in_ok-piece.ensures) (iff_false c.is_never.ensures c.if-is_never.false) (sym c.state_after.ensures ∙ c.in-Some.is)
     (rw (← c.parent.view_is) (record {
       cond_is = refl;
       stack = c.stack.view_is ∙ c.in_ok-push-2.ensures.ok ∙ ap (λ es. record { state = c.in-Some.state; value = None } ∷ es) c.in_ok-stack.ensures;

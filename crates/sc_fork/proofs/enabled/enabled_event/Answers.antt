@@ -31,12 +31,12 @@ returns-in_err-parent-in-Classify-clause-err c =
 pub returns-in-Between-clause-ok : goal.returns-in-Between-clause-ok
 returns-in-Between-clause-ok c =
     rw (c.in-Split.is) (can_split c.in-Split.number c.in-Between.from c.in_ok-parent-in-Split.parent c.in_ok-parent-in-Split.ensures.ok
-    (sym (ap (λ (p : Subparser). p.phase) c.parent.view_is) ∙ c.in-Between.is))
+    (sym (ap (λ (p : Subparser). p.phase) (c.whole.view_is ∙ c.head-whole.ensures)) ∙ c.in-Between.is))
 
 pub returns-in_default : goal.returns-in_default
 returns-in_default c = record {
   ok = tt;
-  err = rw (c.in-Split.is) (not_between c.in-Split.number _ (rw (← c.parent.view_is) at c.in_ok-parent-in-Split.ensures.ok) c.in_default.not-Between);
+  err = rw (c.in-Split.is) (not_between c.in-Split.number _ (rw (← c.head-whole.ensures, ← c.whole.view_is) at c.in_ok-parent-in-Split.ensures.ok) c.in_default.not-Between);
 }
 
 pub returns-in-Some-clause-ok : goal.returns-in-Some-clause-ok
@@ -66,10 +66,10 @@ returns-in-None-reduction-clause-ok c =
 pub returns-in-Named-clause-ok : goal.returns-in-Named-clause-ok
 returns-in-Named-clause-ok c =
     rw (c.in-Classify.is) (can_classify c.in-Classify.number c.in-Named.at c.in_ok-parent-in-Classify.parent c.in_ok-parent-in-Classify.ensures.ok
-    (sym (ap (λ (p : Subparser). p.phase) c.parent-in-Classify.view_is) ∙ c.in-Named.is))
+    (sym (ap (λ (p : Subparser). p.phase) c.parent.view_is) ∙ c.in-Named.is))
 
 pub returns-in_default-phase : goal.returns-in_default-phase
 returns-in_default-phase c = record {
   ok = tt;
-  err = rw (c.in-Classify.is) (not_named c.in-Classify.number _ (rw (← c.parent-in-Classify.view_is) at c.in_ok-parent-in-Classify.ensures.ok) c.in_default-phase.not-Named);
+  err = rw (c.in-Classify.is) (not_named c.in-Classify.number _ (rw (← c.parent.view_is) at c.in_ok-parent-in-Classify.ensures.ok) c.in_default-phase.not-Named);
 }

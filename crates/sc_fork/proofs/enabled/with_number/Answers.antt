@@ -1,15 +1,4 @@
-use Rattle.std.proofs.Common.{sym}
-use Rattle.sc_fork.specs.Enabled.{missing}
-use Rattle.sc_fork.proofs.EnabledLemmas.{none_past, none_at, has_at}
 use Rattle.sc_fork.proofs.enabled.with_number.Goals as goal
 
-pub returns-in_default-clause-err : goal.returns-in_default-clause-err
-returns-in_default-clause-err c = missing (none_past c.args.rows.now c.args.number c.in_default.ensures.lookup.3)
-
-pub returns-in-Some-head-clause-ok : goal.returns-in-Some-head-clause-ok
-returns-in-Some-head-clause-ok c =
-    has_at c.args.rows.now c.args.number c.in-Some.row.now c.in-Some-head.head c.in-Some.ensures.lookup.3.0 c.in-Some.ensures.lookup.1 (sym c.in-Some-head.ensures)
-
-pub returns-in-None-clause-err : goal.returns-in-None-clause-err
-returns-in-None-clause-err c =
-    missing (none_at c.args.rows.now c.args.number c.in-Some.row.now c.in-Some.ensures.lookup.3.0 c.in-Some.ensures.lookup.1 (sym c.in-None.ensures))
+pub returns-in-Ok-clause-ok : goal.returns-in-Ok-clause-ok
+returns-in-Ok-clause-ok c = rw c.head.ensures c.in-Ok.ensures.ok

@@ -1,4 +1,4 @@
-use Rattle.std.proofs.Common.{ap, length, subst}
+use Rattle.std.proofs.Common.{[], ◌∷◌, ◌∙◌, ap, length, subst}
 use Rattle.sc_fork.specs.declared.piece.Piece.TheVariants.{Going}
 use Rattle.sc_fork.specs.Owns.{IsNumbered, IsWithin, OwnsPiece}
 use Rattle.sc_fork.specs.Pieces.{IfGoing, IsPast, IsReducedBy}
@@ -53,6 +53,13 @@ returns-in_err-merged-in-Merge-clause-branches g c =
     merge-branches (s c.args.conds.now) (s c.merge.new.conds) c.args.trees.now c.merge.new.trees c.in-Merge.left.cond c.in-Merge.right.cond c.merge.ensures.keeps c.requires.branches
     own.0.owns.cond own.1.owns.cond c.merge.ensures.adds
 
+pub returns-in_err-piece-in-Merge-clause-branches : goal.returns-in_err-piece-in-Merge-clause-branches
+returns-in_err-piece-in-Merge-clause-branches g c =
+    let s = g.C.Conditions.sets in
+    let own = rw c.in-Merge.is at c.requires.own in
+    merge-branches (s c.args.conds.now) (s c.merge.new.conds) c.args.trees.now c.merge.new.trees c.in-Merge.left.cond c.in-Merge.right.cond c.merge.ensures.keeps c.requires.branches
+    own.0.owns.cond own.1.owns.cond c.merge.ensures.adds
+
 pub returns-in_err-vec-in-Merge-clause-branches : goal.returns-in_err-vec-in-Merge-clause-branches
 returns-in_err-vec-in-Merge-clause-branches g c =
     let s = g.C.Conditions.sets in
@@ -77,7 +84,7 @@ returns-in_ok-vec-in-Merge-clause-pieces g c =
     rw c.in-Merge.is
     (record {
       merged = c.in_ok-merged-in-Merge.merged;
-      is = c.in_ok-vec-in-Merge.ensures.items;
+      is = c.in_ok-vec-in-Merge.ensures.items ∙ ap (λ piece. piece ∷ []) c.in_ok-piece-in-Merge.ensures;
       merges = record {
         cond = c.in_ok-merged-in-Merge.ensures.cond;
         alike = c.in_ok-merged-in-Merge.ensures.alike;
@@ -91,7 +98,7 @@ returns-in_ok-vec-in-Merge-clause-own g c =
     let s = g.C.Conditions.sets in
     let own = rw c.in-Merge.is at c.requires.own in
     all-one (OwnsPiece (s c.merge.new.conds) (length c.merge.new.trees) c.args.source.now) c.in_ok-vec-in-Merge.field-0.items (Going c.in_ok-merged-in-Merge.merged)
-    c.in_ok-vec-in-Merge.ensures.items
+    (c.in_ok-vec-in-Merge.ensures.items ∙ ap (λ piece. piece ∷ []) c.in_ok-piece-in-Merge.ensures)
     (merged-row (s c.args.conds.now) (s c.merge.new.conds) (length c.args.trees.now) (length c.merge.new.trees) c.args.source.now c.in-Merge.left c.in_ok-merged-in-Merge.merged
     c.requires.source own.0 c.in_ok-merged-in-Merge.ensures.alike c.in_ok-merged-in-Merge.ensures.own c.in_ok-merged-in-Merge.ensures.trees)
 
@@ -116,10 +123,10 @@ pub returns-in_ok-vec-in-Shift-clause-order : goal.returns-in_ok-vec-in-Shift-cl
 returns-in_ok-vec-in-Shift-clause-order g c = rw c.in-Shift.is (ap length c.in_ok-vec-in-Shift.ensures.items)
 
 pub returns-in_ok-vec-in-Merge-clause-phases : goal.returns-in_ok-vec-in-Merge-clause-phases
-returns-in_ok-vec-in-Merge-clause-phases g c = rw c.in-Merge.is (all-one (IfGoing (AreAlike c.in-Merge.left)) _ _ c.in_ok-vec-in-Merge.ensures.items c.in_ok-merged-in-Merge.ensures.alike)
+returns-in_ok-vec-in-Merge-clause-phases g c = rw c.in-Merge.is (all-one (IfGoing (AreAlike c.in-Merge.left)) _ _ (c.in_ok-vec-in-Merge.ensures.items ∙ ap (λ piece. piece ∷ []) c.in_ok-piece-in-Merge.ensures) c.in_ok-merged-in-Merge.ensures.alike)
 
 pub returns-in_ok-vec-in-Merge-clause-order : goal.returns-in_ok-vec-in-Merge-clause-order
-returns-in_ok-vec-in-Merge-clause-order g c = rw c.in-Merge.is (c.in_ok-merged-in-Merge.merged, c.in_ok-vec-in-Merge.ensures.items)
+returns-in_ok-vec-in-Merge-clause-order g c = rw c.in-Merge.is (c.in_ok-merged-in-Merge.merged, c.in_ok-vec-in-Merge.ensures.items ∙ ap (λ piece. piece ∷ []) c.in_ok-piece-in-Merge.ensures)
 
 pub returns-in-Split-clause-numbered : goal.returns-in-Split-clause-numbered
 returns-in-Split-clause-numbered g c = c.split.ensures.numbered c.args.numbers.now (rw c.in-Split.is at c.requires.numbered)
@@ -138,10 +145,14 @@ returns-in_ok-vec-in-Reduce-clause-numbered g c =
 
 pub returns-in_ok-vec-in-Merge-clause-numbered : goal.returns-in_ok-vec-in-Merge-clause-numbered
 returns-in_ok-vec-in-Merge-clause-numbered g c =
-    all-one (IsNumbered c.merge.new.numbers) c.in_ok-vec-in-Merge.field-0.items (Going c.in_ok-merged-in-Merge.merged) c.in_ok-vec-in-Merge.ensures.items c.in_ok-merged-in-Merge.ensures.numbered
+    all-one (IsNumbered c.merge.new.numbers) c.in_ok-vec-in-Merge.field-0.items (Going c.in_ok-merged-in-Merge.merged)
+    (c.in_ok-vec-in-Merge.ensures.items ∙ ap (λ piece. piece ∷ []) c.in_ok-piece-in-Merge.ensures) c.in_ok-merged-in-Merge.ensures.numbered
 
 pub returns-in_err-merged-in-Merge-clause-leaves : goal.returns-in_err-merged-in-Merge-clause-leaves
 returns-in_err-merged-in-Merge-clause-leaves g c = merge-leaves _ _ _ _ _ c.merge.ensures.adds
+
+pub returns-in_err-piece-in-Merge-clause-leaves : goal.returns-in_err-piece-in-Merge-clause-leaves
+returns-in_err-piece-in-Merge-clause-leaves g c = merge-leaves _ _ _ _ _ c.merge.ensures.adds
 
 pub returns-in_err-vec-in-Merge-clause-leaves : goal.returns-in_err-vec-in-Merge-clause-leaves
 returns-in_err-vec-in-Merge-clause-leaves g c = merge-leaves _ _ _ _ _ c.merge.ensures.adds

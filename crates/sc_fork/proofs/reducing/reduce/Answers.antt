@@ -2,6 +2,7 @@ use Rattle.std.proofs.Common.{◌≡◌, ◌∙◌, ◌<◌, ◌∷◌, List, Op
 use Rattle.sc_base.specs.declared.id.TreeId.{TreeId}
 use Rattle.sc_fork.specs.Reducing.{IsValueOf}
 use Rattle.sc_fork.proofs.ChoiceLemmas.{adds-branches}
+use Rattle.sc_fork.proofs.PieceLemmas.{if-made}
 use Rattle.sc_fork.proofs.ReduceEvents.{in-range, never-refused, taken-own, branches-Keeps, IsReduced, is-reduced}
 use Rattle.sc_grammar.specs.Production.{production_of}
 use Rattle.sc_lalr.specs.Tables.{goto_of}
@@ -67,13 +68,16 @@ reduced g c =
     (c.in_ok-push.ensures.ok ∙ ap (λ (es : List Entry). record { state = c.in-Some.state; value = c.in_ok-value.value } ∷ es) popped) (ap (λ (p : Subparser). p.phase) c.parent.view_is) c.in_ok-scopes.ensures.own c.in_ok-scopes.ensures.levels
 
 pub returns-clause-piece : goal.returns-clause-piece
-returns-clause-piece g c = λ names files input t is seen. (reduced g c).pieces names files input t is.names_differ is seen
+returns-clause-piece g c = if-made _ c.going.result _ c.going.ensures (λ names files input t is seen. (reduced g c).pieces names files input t is.names_differ is seen)
 
 pub returns-clause-own : goal.returns-clause-own
-returns-clause-own g c = (reduced g c).row
+returns-clause-own g c = if-made _ c.going.result _ c.going.ensures (reduced g c).row
 
 pub returns-clause-reduced : goal.returns-clause-reduced
-returns-clause-reduced g c = (reduced g c).by
+returns-clause-reduced g c = if-made _ c.going.result _ c.going.ensures (reduced g c).by
+
+pub returns-clause-numbered : goal.returns-clause-numbered
+returns-clause-numbered g c = if-made _ c.going.result _ c.going.ensures c.in_ok-scopes.ensures.numbered
 
 pub returns-clause-branches : goal.returns-clause-branches
 returns-clause-branches g c = branches-Keeps _ _ _ c.marked_scopes.ensures.keeps (adds-branches _ c.args.trees.now _ c.value_of.ensures.choices c.requires.branches)

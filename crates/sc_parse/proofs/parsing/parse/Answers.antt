@@ -3,11 +3,11 @@ use Rattle.std.proofs.lemmas.Result.{err_from_is_err_and}
 use Rattle.sc_base.specs.declared.id.Cond.{Cond}
 use Rattle.sc_base.specs.declared.token.Token.{Token}
 use Rattle.sc_fork.specs.Choices.{AddsLeaves}
+use Rattle.sc_fork.proofs.ChoiceLemmas.{leaves-then}
 use Rattle.sc_merge.specs.Merges.{tables_with}
 use Rattle.sc_model.proofs.SetLemmas.{Keeps-trans}
 use Rattle.sc_parse.proofs.EventLemmas.{run-stands-seen}
 use Rattle.sc_parse.proofs.ResultLemmas.{IsStarted, begins, has-begun, is-c11, own-parsed, parsed, run-over, schedule}
-use Rattle.sc_parse.proofs.RunLemmas.{leaves-then}
 use Rattle.sc_parse.proofs.parsing.parse.Given as given
 use Rattle.sc_parse.proofs.parsing.parse.Goals as goal
 use Rattle.sc_parse.proofs.parsing.parse.Goals.{After-len}
