@@ -39,6 +39,12 @@ ASKING_OTHERWISE = ("__has_include", "__has_include_next", "__has_warning")
 DEFINITION = re.compile(r"^#define (\w+(?:\([^)]*\))?)(?: (.*))?$", re.M)
 STRICT = re.compile(r"c\d|iso9899")
 LATER = re.compile(r"(c|gnu)2[3xy]|iso9899:2024")
+# What superc reads by each standard of a space.
+EDITIONS = {
+    "c11": "C11",
+    "gnu11": "C11 with GNU's variadic macros",
+    "c23": "C11 with #elifdef and binary constants",
+}
 
 
 class CompilerError(Exception):
@@ -53,6 +59,11 @@ def standard_of(standard: str) -> str:
 def is_later(standard: str) -> bool:
     """Whether the words name C23 or what comes after it."""
     return LATER.match(standard) is not None
+
+
+def edition_of(standard: str) -> str:
+    """The standard of the space for what the words name."""
+    return "c23" if is_later(standard) else standard_of(standard)
 
 
 @dataclass(frozen=True)

@@ -8,7 +8,15 @@ import os
 from collections.abc import Iterable
 from dataclasses import dataclass, field
 
-from .compiler import ASKING, ASKING_OTHERWISE, OWN, PROTECTED, Compiler, is_later
+from .compiler import (
+    ASKING,
+    ASKING_OTHERWISE,
+    EDITIONS,
+    OWN,
+    PROTECTED,
+    Compiler,
+    edition_of,
+)
 from .compiles import Compile, macro_name
 from .forms import Forms
 from .overlay import Edits, Overlay, write_if_new
@@ -110,13 +118,19 @@ class Folder:
         self.name = name
         self.unit = unit
         self.variables = variables
-        # Copies depend on the order of the search and on the variables.
+        self.edition = edition_of(unit.compile.standard)
+        # Copies depend on the order of the search, on the variables and on the standard.
         search = json.dumps(
-            [unit.reach.search.quoted, unit.reach.search.directories, sorted(variables)]
+            [
+                unit.reach.search.quoted,
+                unit.reach.search.directories,
+                sorted(variables),
+                self.edition,
+            ]
         )
         self.key = hashlib.sha256(search.encode()).hexdigest()[:8]
         is_unsigned = bool(unit.compiler and "__CHAR_UNSIGNED__" in unit.compiler.predefined)
-        self.forms = Forms(unit.reach.search, is_unsigned)
+        self.forms = Forms(unit.reach.search, is_unsigned, self.edition == "gnu11")
         self._asked = sorted(asked_of(unit.reached.values()))
         self.settings = Overlay.of(
             f"{self.top}/settings/{self.key}", unit.reach, unit.reached, self._settings_of
@@ -158,7 +172,7 @@ class Folder:
             *[f"  {json.dumps(one)}," for one in listed],
             "]",
             f"include_depth = {DEEPEST}",
-            *(['standard = "c23"'] if is_later(self.unit.compile.standard) else []),
+            f'standard = "{self.edition}"',
             "",
             "[variables]",
         ]
@@ -250,8 +264,8 @@ class Folder:
                     notes.append(f"{name} is {value}, as superc has it")
         standard = self.unit.compile.standard
         if standard not in ("c11", "gnu11", "iso9899:2011"):
-            more = " with #elifdef and binary constants" if is_later(standard) else ""
-            notes.append(f"the standard {standard or 'of the compiler'} is read as C11{more}")
+            named = standard or "of the compiler"
+            notes.append(f"the standard {named} is read as {EDITIONS[self.edition]}")
         notes += [
             f"-D{head}: no directive may define it"
             for head, _ in self.unit.compile.macros

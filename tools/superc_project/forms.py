@@ -15,6 +15,8 @@ class Forms:
 
     search: Search
     is_char_unsigned: bool
+    # Whether superc reads GNU's forms of variadic macros by the standard of the space.
+    has_rests: bool
     lost: dict[Found, list[str]] = field(default_factory=dict)
 
     def edits_of(self, here: Found) -> Edits:
@@ -23,7 +25,8 @@ class Forms:
         edits: Edits = {}
         for one in source.defines:
             line = source.text[one.span[0] : one.span[1]]
-            if one.parameters and "..." in one.parameters and (form := rewritten(line)):
+            is_variadic = one.parameters and "..." in one.parameters
+            if not self.has_rests and is_variadic and (form := rewritten(line)):
                 edits[one.span], keeps_calls = form
                 if not keeps_calls:
                     where = f"({here.path}:{source.line_of(one.span[0])})"

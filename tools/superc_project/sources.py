@@ -158,8 +158,6 @@ def read(path: str, text: str) -> Source:
             _lose(source, found.start(), f"#{word}: superc refuses it")
         elif word == "pragma" and found[2].split() == ["once"]:
             source.is_once |= depth == 0
-            if depth:
-                _lose(source, found.start(), "#pragma once in a conditional: superc ignores it")
     for name in ALONE:
         if name in plain and (at := re.search(rf"\b{name}\b", plain)):
             _lose(source, at.start(), f"superc has no {name}")

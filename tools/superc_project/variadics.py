@@ -1,8 +1,9 @@
 """GNU's forms of variadic macros, written as C11 has them.
 
 GNU's C has a name for the rest of the arguments, `args...`, and `, ## args` drops the comma where
-there are none. A definition is rewritten where each of its calls gives the same tokens. Where none
-is known, the definition is rewritten so that superc refuses each call (BadPaste).
+there are none. Only a space of gnu11 has these. For another one a definition is rewritten where
+each of its calls gives the same tokens. Where none is known, the definition is rewritten so that
+superc refuses each call (BadPaste).
 """
 from __future__ import annotations
 

@@ -13,7 +13,7 @@ import unittest
 from pathlib import Path
 
 from superc_project import kconfig, runs
-from superc_project.compiler import is_later, standard_of
+from superc_project.compiler import edition_of, is_later, standard_of
 from superc_project.compiles import CompileError, compile_of, read_database
 from superc_project.forms import Forms
 from superc_project.makefiles import Job, makefile, ninja
@@ -80,6 +80,8 @@ class Words(unittest.TestCase):
         self.assertEqual({name: standard_of(name) for name in rows}, rows)
         later = ["c23", "gnu23", "c2x", "gnu2x", "c2y", "iso9899:2024"]
         self.assertEqual([name for name in [*rows, *later] if is_later(name)], later)
+        editions = {"gnu17": "gnu11", "": "gnu11", "c99": "c11", "gnu2x": "c23", "c23": "c23"}
+        self.assertEqual({name: edition_of(name) for name in editions}, editions)
 
 
 class Variadics(unittest.TestCase):
@@ -121,7 +123,7 @@ class Sources(unittest.TestCase):
         self.assertEqual(source.tested, {"M_H": 1, "A": 1, "B": 1, "C": 1, "E": 1})
         self.assertEqual([one.name for one in source.defines], ["M_H", "D", "H"])
         self.assertEqual(source.named_headers, [("H", "h.h", False)])
-        self.assertEqual(source.lost, ["#pragma once in a conditional: superc ignores it (m.h:12)"])
+        self.assertEqual(source.lost, [])
 
     def test_what_is_said(self) -> None:
         rows = {
@@ -164,9 +166,11 @@ class Files(unittest.TestCase):
             path.parent.mkdir(parents=True, exist_ok=True)
             path.write_text(text)
 
-    def overlay(self, first: str, *directories: str) -> tuple[Overlay, Forms]:
+    def overlay(
+        self, first: str, *directories: str, has_rests: bool = False
+    ) -> tuple[Overlay, Forms]:
         reach = Reach(Search([], [f"{self.folder}/{one}" for one in directories]))
-        forms = Forms(reach.search, False)
+        forms = Forms(reach.search, False, has_rests)
         reached = reach.below([Found(f"{self.folder}/{first}", BESIDE)])
         return Overlay.of(f"{self.folder}/out", reach, reached, forms.edits_of), forms
 
@@ -219,7 +223,7 @@ class Files(unittest.TestCase):
         self.put(m_c='#include "x.h"\n#include <y.h>\n', x_h="#pragma once\nint x;\n")
         self.put(a__y_h="#pragma once\n#define f(x...) x\n")
         reach = Reach(Search([], [f"{self.folder}/a"]))
-        forms = Forms(reach.search, False)
+        forms = Forms(reach.search, False, False)
         reached = reach.below([Found(f"{self.folder}/m.c", BESIDE)])
         overlay = Overlay.of(
             f"{self.folder}/out",
@@ -243,6 +247,11 @@ class Files(unittest.TestCase):
             "/out/once/a/y.h": "#pragma once\n#define f(...) __VA_ARGS__\n",
         }
         self.assertEqual(made, want)
+
+    def test_macros_that_superc_reads_have_no_copy(self) -> None:
+        self.put(m_c='#include "x.h"\n#define f(a, x...) g("", ## x)\n', x_h="#define h(x...) x\n")
+        overlay, forms = self.overlay("m.c", has_rests=True)
+        self.assertEqual((overlay.copies, forms.lost), ({}, {}))
 
     def test_a_large_character(self) -> None:
         self.put(m_c="#if '\\301' == -63 && '\\x41'\n#endif\n")
@@ -437,14 +446,14 @@ class Whole(unittest.TestCase):
             included, f'#include "{self.folder}/superc-out/overlay/[0-9a-f]+{self.folder}/m.c"'
         )
 
-    def test_a_unit_of_c23(self) -> None:
-        for standard, wanted in ("gnu2x", "c23"), ("gnu17", None):
+    def test_the_standard_of_a_space(self) -> None:
+        for standard, wanted in ("gnu2x", "c23"), ("gnu17", "gnu11"), ("c17", "c11"):
             done = self.run_tool(
                 "unit", "--variable", "A", "--", "gcc", f"-std={standard}", "-c", "m.c"
             )
             self.assertEqual((done.returncode, done.stdout), (0, "superc-out/units/m.c\n"))
             space = Path(self.folder, "superc-out/units/m.c/space.toml")
-            self.assertEqual(tomllib.loads(space.read_text()).get("standard"), wanted)
+            self.assertEqual(tomllib.loads(space.read_text())["standard"], wanted)
 
     def test_all_units(self) -> None:
         done = self.run_tool("all", "--superc", "./superc", "--variable", "A", "-j", "1")
