@@ -18,6 +18,11 @@ def each(count, text):
     return "".join(text.replace("@", str(at)) for at in range(count))
 
 
+def in_one(count, number, text):
+    """The text under one configuration: its variables are the bits of a number, undefined for 1."""
+    return "".join(f"#if{'n' * (number >> bit & 1)}def V{bit}\n" for bit in range(count)) + text + "#endif\n" * count
+
+
 def sections():
     yield "#if inside #if", NO_VARIABLE, "#if 1\n" * DEEP + "x\n" + "#endif\n" * DEEP
     yield "#ifdef inside #ifdef", ONE_VARIABLE, "#ifdef A\n" * DEEP + "x\n" + "#endif\n" * DEEP
@@ -25,8 +30,9 @@ def sections():
     yield "#ifdef without end", ONE_VARIABLE, "#ifdef A\n" * DEEP
     yield "a file that includes itself", "include_depth = 200\n" + ONE_VARIABLE, '#include "m.c"\n'
     yield "a file that includes itself under A", "include_depth = 200\n" + ONE_VARIABLE, 'x\n#ifdef A\n#include "m.c"\n#endif\n'
-    yield "faults of 2,000 configurations", space_of(17), "".join(
-        "".join(f"#if{'n' * (at >> bit & 1)}def V{bit}\n" for bit in range(17)) + "#error\n" + "#endif\n" * 17 for at in range(2000))
+    yield "faults of 2,000 configurations", space_of(17), "".join(in_one(17, at, "#error\n") for at in range(2000))
+    yield "a file that is entered once, asked for twice under each of 1,000 conditions", space_of(10), "#ifdef X\n#pragma once\nint x;\n#else\n#define X\n" + "".join(
+        in_one(10, at % 1000, '#include "m.c"\n') for at in range(2000)) + "#endif\n"
 
 
 def expressions():
