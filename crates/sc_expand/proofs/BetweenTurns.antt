@@ -3,7 +3,7 @@ use Rattle.std.proofs.Common.{◌≡◌, ◌<◌, ℕ, Bool, true, List, length}
 use Rattle.c11_macros.specs.Expansion.{IsWithin}
 use Rattle.c11_macros.specs.Macros.{Macros}
 use Rattle.sc_expand.proofs.AlikeRunning.{StayAlike, alike-rested, alike-start, alike-turned}
-use Rattle.sc_expand.proofs.PhaseTurns.{phase-turned}
+use Rattle.sc_expand.proofs.PhasePairs.{phase-turned}
 use Rattle.sc_expand.proofs.Phases.{Phase}
 use Rattle.sc_expand.proofs.PhaseStarts.{phase-ready, phase-rested, phase-start}
 use Rattle.sc_expand.proofs.PhaseStops.{turn-stops}

@@ -96,6 +96,5 @@ pub mod SettlingLemmas
 pub mod KeptLemmas
 pub mod NamedItems
 pub mod PhasePairs
-pub mod PhaseTurns
 pub mod ThinLemmas
 pub mod PhaseKeeps

@@ -1,16 +1,16 @@
 -- What a phase has put out, through a turn, and what is put out for the item of who begins to wait.
 use Rattle.std.proofs.Common.{◌≡◌, ◌∙◌, ℕ, ◌≤◌, Bool, true, false, true≢false, List, [], ◌∷◌, ◌++◌, ◌-◌, ◌<◌, All, append-nil, drop, length, length-append, map, suc, ◌+◌, Some, None, slice_get, take, refl, sym, ap, subst, arith}
 use Rattle.std.proofs.lemmas.Bool.{false_from_ne_true}
-use Rattle.std.proofs.lemmas.List.{append_cancel_left, drop-drop, drop-map, drop_at, length-drop, map-append, take-append-drop}
+use Rattle.std.proofs.lemmas.List.{append_cancel_left, drop-drop, drop-map, length-drop, length-map, map-append, take-append-drop}
 use Rattle.std.proofs.lemmas.List.Elements.{All-append}
 use Rattle.c11_macros.specs.Macros.{Macros}
 use Rattle.c11_macros.specs.Runs.{waits}
 use Rattle.sc_base.specs.declared.id.Cond.{Cond}
 use Rattle.sc_expand.proofs.Behind.{behind-falls, below, below-behind}
 use Rattle.sc_expand.proofs.LastLemmas.{behind-drop}
-use Rattle.sc_expand.proofs.PassesLaws.{none-behind, passes-end}
+use Rattle.sc_expand.proofs.PassesLaws.{none-behind}
 use Rattle.sc_expand.proofs.PhaseItems.{come-many, comes-by, from-later, item-is}
-use Rattle.sc_expand.proofs.PhaseLists.{length-seen, same-end}
+use Rattle.sc_expand.proofs.PhaseLists.{length-seen, same-drop}
 use Rattle.sc_expand.proofs.PhaseMoves.{ended-state, first-far, first-out, held-first, start-later, state-bottom, takes-pending}
 use Rattle.sc_expand.proofs.Phases.{Begins, Comes, IsReady, Phase, Segments, Waiting, WaitsHere, at_item, at_start, indexes_now, last_at, state_now, tokens_from}
 use Rattle.sc_expand.proofs.PhaseKeeps.{more-at, more-idle, more-is, more-of, number, numbers-parts, waits-turned}
@@ -29,6 +29,7 @@ use Rattle.sc_expand.specs.Running as running
 use Rattle.sc_expand.specs.Running.{HasEnded, IsTurned, Pushes, bottom, put_out}
 use Rattle.sc_expand.specs.Seen.{Grows, Stores, provenance_of, seen_at, view_at}
 use Rattle.sc_expand.specs.Spans as spans
+use Rattle.sc_expand.specs.Spans.{indexes_at, last_ones}
 use Rattle.sc_expand.specs.Turn as turn
 use Rattle.sc_expand.specs.Turn.{EndsBy, held_up}
 use Rattle.sc_expand.specs.Unchanged as unchanged
@@ -173,11 +174,9 @@ module _ (files : List (List ℕ)) (macros : List ℕ → Macros) {old now : Sto
       left = h.x.name.left;
       ends = ap (waits h.n.name) h.n.stands;
       takes = sym behind_is ∙ (h.x.name.reaches.stands ∙ ap (λ l. l ++ h.x.name.left) (sym h.n.takes));
-      gone = gone;
-      left_is = left-is;
       is = indexes-same ∙ ((λ i. indexes-none r phase c listed not i ++ map (number long phase.n phase.at) numbers)
           ∙ (numbers-parts long phase.n phase.at (length (bottom e).work) (h.n.name ∷ h.n.made) numbers (behind-falls now.sets c (bottom e).work) counts
-          ∙ ap (λ l. map (λ t. phase.at) (h.n.name ∷ h.n.made) ++ l) (ap (map (λ j. long - suc j)) lasts ∙ sym (drop-map (λ (j : ℕ). long - suc j) gone (behind_at old.sets was.top.work c)))));
+          ∙ ap (λ l. map (λ t. phase.at) (h.n.name ∷ h.n.made) ++ l) (ap (map (λ j. long - suc j)) lasts ∙ lasts-are)));
     }
       where
         behind_is : h.x.name.behind ≡ tokens_from old was (phase.at + 1) c
@@ -201,15 +200,15 @@ module _ (files : List (List ℕ)) (macros : List ℕ → Macros) {old now : Sto
         lasts : below phase.n numbers ≡ drop gone (behind_at old.sets was.top.work c)
         lasts = suffix.1 ∙ (ap (drop suffix.0) (below-behind old.sets c phase.n was.top.work most ∙ behind-drop old.sets (long - phase.n) was.top.work c) ∙ drop-drop suffix.0 had (behind_at old.sets was.top.work c))
 
-        left-is : h.x.name.left ≡ drop gone (seen_at old was.top.work c)
-        left-is =
-            let list = seen_at old was.top.work c in
-            let end = passes-end (provenance_of files) (macros c) h.x.name.passes in
-            let stood = h.x.name.reaches.taken in
-            let is : h.x.name.left ≡ drop (length stood) (drop 1 (drop end.0 list)) = sym (drop_at stood h.x.name.left (length stood) refl) ∙ ap (drop (length stood)) (sym h.x.name.reaches.stands ∙ ap (drop 1) end.1) in
-            let own = h.x.own in
-            same-end (end.0 + 1 + length stood) gone list h.x.name.left (drop gone list) (is ∙ (ap (drop (length stood)) (drop-drop 1 end.0 list) ∙ drop-drop (length stood) (end.0 + 1) list)) refl
-            (omega (arith, own, ap length lasts, length-drop gone (behind_at old.sets was.top.work c), length-drop gone list, length-seen old was.top.work c))
+        -- which are as many as are left
+        lasts-are : map (λ j. long - suc j) (drop gone (behind_at old.sets was.top.work c)) ≡ last_ones (length h.x.name.left) (indexes_at old.sets was.top.work c)
+        lasts-are =
+            let own : ℕ → ℕ = λ j. long - suc j in
+            let all = indexes_at old.sets was.top.work c in
+            let first = length all - length h.x.name.left in
+            let here = sym (drop-map own gone (behind_at old.sets was.top.work c)) in
+            let left = h.x.own in
+            here ∙ same-drop gone first all (omega (arith, left, ap length lasts, ap length here, length-map (drop gone (behind_at old.sets was.top.work c)) own, length-drop gone all, length-drop first all))
 
         counts : suc (length h.n.made) + length (below phase.n numbers) ≡ length numbers
         counts =

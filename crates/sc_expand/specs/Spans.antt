@@ -21,6 +21,10 @@ abbrev pub of_item : {A : Type 0} → ℕ → List (ℕ × A) → List A
 of_item at [] = []
 of_item at (x ∷ xs) = if nat_eq x.0 at then x.1 ∷ of_item at xs else of_item at xs
 
+-- so many last elements
+abbrev pub last_ones : {A : Type 0} → ℕ → List A → List A
+last_ones n xs = drop (length xs - n) xs
+
 -- the indexes by which the elements are told that the configuration has
 abbrev pub indexes_in : {A : Type 0} → Sets → List (ℕ × (Cond × A)) → List ℕ → List ℕ
 indexes_in s kept c = items_at s (map (λ x. (x.1.0, x.0)) kept) c
@@ -94,9 +98,8 @@ module _ {T P : Type 0} (see : T → Hidden P) (provenance : Provenance P) (macr
     comes : (x : ComesAt list at c) → map look (items_at later out c) ≡ x.done → PutsOutAt list at later look out c
     passed : (ComesAt list at c → ⊥) → items_at later out c ≡ [] → PutsOutAt list at later look out c
 
-  -- The configuration waits at an item, and these are the indexes of what waits there: this one for
-  -- the name and for each token that was made, and those of the items behind it that it did not
-  -- take.
+  -- The configuration waits at an item, and these are the indexes of what waits: this one for the
+  -- name and for each token that was made, and those of the items behind it that it didn't take.
   pub record WaitsAs (list : List (Cond × T)) (indexes : List ℕ) (c : List ℕ) : Type 0 where
     pub at : ℕ
     pub comes : ComesAt list at c
@@ -105,12 +108,10 @@ module _ {T P : Type 0} (see : T → Hidden P) (provenance : Provenance P) (macr
     pub left : List (Hidden P)
     pub ends : comes.end ≡ waits name (made ++ left)
     pub takes : behind list at c ≡ comes.uses.taken ++ left
-    pub gone : ℕ
-    pub left_is : left ≡ drop gone (map see (items_at s list c))
-    pub is : indexes ≡ map (λ t. at) (name ∷ made) ++ drop gone (indexes_at s list c)
+    pub is : indexes ≡ map (λ t. at) (name ∷ made) ++ last_ones (length left) (indexes_at s list c)
 
-  -- It doesn't come to the item, or what follows the list may call the item or close its call:
-  -- where it waits the item itself does.
+  -- It doesn't come to the item, or what follows the list may call the item or close its call. What
+  -- waits of the item at this configuration, if anything does, is the item itself.
   abbrev pub IsItself : List (Cond × T) → ℕ → List ℕ → Type 0
   IsItself list at c = (ComesAt list at c → ⊥) ⊎ ((x : ComesAt list at c) × Waits (macros c) (scanning [] (see x.item.1 ∷ behind list at c)))
 
@@ -120,7 +121,7 @@ module _ {T P : Type 0} (see : T → Hidden P) (provenance : Provenance P) (macr
 
   -- What is put out is what each of so many first items became, one after the other. What
   -- configurations have of an item that they expand alike, of what is put out and of what waits, is
-  -- the same, but that the one may be ahead. Of what waits of an item the first element alone is
+  -- the same, but that the one may be ahead. Of what waits of an item only the first element may be
   -- the item itself.
   pub record InSegments (list : List (Cond × T)) (cond : ℕ) (later : Sets) (look : T → Hidden P) (count : ℕ) (out : List (Cond × T)) (kept : List (ℕ × (Cond × T))) : Type 0 where
     pub segments : List (List (Cond × T))

@@ -24,9 +24,9 @@ module _ {T P : Type 0} (see : T → Hidden P) (provenance : Provenance P) (macr
   abbrev pub InSpan : List ℕ → List ℕ → Type 0
   InSpan c d = (size : ℕ) × IsSpan see provenance macros s list at size c d
 
-  -- The n-th token that both put out for the item is one element, where they expand it alike or it
-  -- stays; and so is the n-th that waits of it, where they expand it alike or the item itself
-  -- waits.
+  -- The n-th token that both put out for the item is one element where they expand it alike, or it
+  -- stays at both; and so is the n-th that waits of it where they expand it alike, or the item
+  -- itself waits at both.
   pub record IsThin (later : Sets) (out of : List (Cond × T)) (c d : List ℕ) : Type 0 where
     pub puts : (n i j : ℕ) → InSpan c d ⊎ (Stays c × Stays d) → IsNth later out c n i → IsNth later out d n j → i ≡ j
     pub waits : (n i j : ℕ) → InSpan c d ⊎ (IsItself see provenance macros s list at c × IsItself see provenance macros s list at d)
