@@ -6,17 +6,18 @@ use Rattle.std.proofs.lemmas.List.Elements.{All-nil, All-cons, All-head, All-tai
 use Rattle.std.specs.Option.{option_to_list}
 use Rattle.std.specs.Prelude.{is_none, unwrap_or}
 use Rattle.c11_macros.specs.Expansion.{empty}
-use Rattle.c11_macros.specs.Text.{TextExpands}
+use Rattle.c11_directives.specs.Pre.{put_out}
+use Rattle.c11_macros.specs.Text.{TextExpands, token_of}
 use Rattle.sc_base.proofs.Growth.{Extends-within}
 use Rattle.sc_base.specs.declared.fault.Fault as base
 use Rattle.sc_base.specs.declared.id.Cond.{Cond}
 use Rattle.sc_base.specs.declared.token.Token as base_token
 use Rattle.sc_base.specs.Seen.{IsHeld, seen, text_at}
 use Rattle.sc_expand.specs.Answers.{IsEmpty, IsExpanded, IsHeldAnswer, Stands}
-use Rattle.sc_guarded.proofs.ItemLemmas.{faults_at-append, faults_at-Keeps, items_at-append}
+use Rattle.sc_guarded.proofs.ItemLemmas.{faults_at-append, faults_at-Keeps, items_at-append, items_at-Keeps}
 use Rattle.sc_guarded.specs.Items.{faults_at, items_at, seen_fault}
 use Rattle.sc_guarded.specs.declared.expanded.Expanded.{Expanded}
-use Rattle.sc_model.proofs.SetLemmas.{IsConfig-Keeps, IsConfig-kept}
+use Rattle.sc_model.proofs.SetLemmas.{IsConfig-Keeps, IsConfig-kept, Keeps-trans}
 use Rattle.sc_model.specs.Bytes.{has_no_newline}
 use Rattle.sc_model.specs.Fault.{Fault}
 use Rattle.sc_model.specs.Growth.{Extends}
@@ -34,7 +35,9 @@ use Rattle.sc_table.proofs.Growth.{IsTable-Extends, IsTable-Keeps, macros_at-Ext
 use Rattle.sc_table.specs.Table.{IsTable, macros_at}
 use Rattle.sc_prep.proofs.LineSteps.{tokens-grown}
 use Rattle.sc_prep.proofs.Machine.{inert_closing}
+use Rattle.sc_prep.proofs.SettledText.{behind_these, text-as, text-closes, text-expands}
 use Rattle.sc_prep.proofs.WalkMoves.{owns-kept, simulates-kept}
+use Rattle.sc_prep.specs.Gathered.{HasText}
 
 -- ---- what the items of a list have, those of a configuration have
 
@@ -75,6 +78,10 @@ module _ {names more : List (List ℕ)} (grows : Extends names more) where
         → map (seen more files) (items_at s list c) ≡ map (seen names files) (items_at s list c)
     items-grown s list c count placed = tokens-grown files grows (items_at s list c) (items_at-All (IsHeld names) s list c (λ k d h. (placed k d h).held))
 
+    pub shown-before : {old s : Sets} → Keeps old s → (list : List (Cond × base_token.Token)) (c : List ℕ) → All (λ (item : Cond × base_token.Token). IsCond old item.0.0) list
+        → ArePlaced names (length files) list → IsConfig old.arities c → map (seen more files) (items_at s list c) ≡ map (seen names files) (items_at old list c)
+    shown-before {old} {s} since list c own placed listed = items-grown s list c (length files) placed ∙ ap (map (seen names files)) (items_at-Keeps list c since own listed)
+
     -- the walk stays where it is
     pub simulates-grown : {s : Sets} (w : Walk) (test : base_token.Token → Bool) (count : ℕ) (config : List ℕ) (m : Machine) → IsTable s names w.table → IsHeldWalk names count test w
         → Simulates s names files w config m → Simulates s more files w config m
@@ -84,10 +91,9 @@ module _ {names more : List (List ℕ)} (grows : Extends names more) where
       sections = simulates.sections;
       prepared = record {
         live = simulates.prepared.live;
-        output = λ none. items-grown s w.prepared.list config count held.list ∙ simulates.prepared.output none;
         fault = simulates.prepared.fault;
       };
-      run = λ none. items-grown s w.gathered config count held.gathered ∙ simulates.run none;
+      text = λ none. text-as (items-grown s w.gathered config count held.gathered) (items-grown s w.prepared.list config count held.list) (simulates.text none);
       macros = λ none name. macros_at-Extends grows is config name ∙ simulates.macros none name;
       once = simulates.once;
     }
@@ -129,7 +135,7 @@ if-all : (P : base_token.Token → Type 0) (b : Bool) (xs : List base_token.Toke
 if-all P true xs all = all
 if-all P false xs all = All-nil P
 
-plain-seen : (names files : List (List ℕ)) (ts : List base_token.Token) (output : List Token) → map (seen names files) ts ≡ output
+pub plain-seen : (names files : List (List ℕ)) (ts : List base_token.Token) (output : List Token) → map (seen names files) ts ≡ output
     → All (λ (t : Token). has_no_newline t.spelling ≡ true) output → All (λ (t : base_token.Token). is_plain names t ≡ true) ts
 plain-seen names files [] output e all = All-nil (λ (t : base_token.Token). is_plain names t ≡ true)
 plain-seen names files (t ∷ ts) [] e all = absurd (cc)
@@ -141,7 +147,7 @@ plain-seen names files (t ∷ ts) (o ∷ os) e all =
     (plain-seen names files ts os rest (All-tail (λ (t : Token). has_no_newline t.spelling ≡ true) o os all))
 
 -- items that have a configuration are plain where those of each configuration are
-plain-by : (s : Sets) (names : List (List ℕ)) (list : List (Cond × base_token.Token))
+pub plain-by : (s : Sets) (names : List (List ℕ)) (list : List (Cond × base_token.Token))
     → ((c : List ℕ) → IsConfig s.arities c → All (λ (t : base_token.Token). is_plain names t ≡ true) (items_at s list c))
     → All (λ (item : Cond × base_token.Token). IsNever s item.0.0 → ⊥) list → AllPass (is_plain names) list
 plain-by s names [] each some = All-nil (λ (item : Cond × base_token.Token). is_plain names item.1 ≡ true)
@@ -191,19 +197,27 @@ closes-empty files names s w owns is nothing = record {
   where
     arrives : (config : List ℕ) (m : Machine) → Simulates s names files w config m → (b : Bool) → acts m ≡ b → Arrives s names files w config (Closed m)
     arrives config m simulates true acting =
-        let no_run : [] ≡ m.state.run = ap (λ xs. map (seen names files) (items_at s xs config)) (sym nothing) ∙ simulates.run (fault-none m.active m.fault acting) in
-        let same : m ≡ closing_run m (Ok []) =
-        ap (λ r. record m { state = record m.state { run = r } }) (sym no_run)
-        ∙ (ap (λ o. record m { state = record m.state { run = []; output = o } }) (sym (append-nil m.state.output))
-        ∙ ap (λ b. record m { state = if b then record m.state { run = []; output = m.state.output ++ [] } else m.state }) (sym acting)) in
+        let has = simulates.text (fault-none m.active m.fault acting) in
+        let gathered = map (seen names files) (items_at s w.gathered config) in
+        let list = map (seen names files) (items_at s w.prepared.list config) in
+        let none : gathered ≡ [] = ap (λ xs. map (seen names files) (items_at s xs config)) nothing in
+        let output = map token_of has.out ++ [] in
         record {
-          machine = closing_run m (Ok []);
+          machine = closing_run m (Ok output);
           done = record {
-            answer = Ok [];
-            expands = λ _. subst (λ run. TextExpands m.state.macros run (Ok [])) no_run (record { answer = Ok []; expands = empty; is = refl });
+            answer = Ok output;
+            expands = λ _. text-expands m.state gathered list has (Ok []) (subst (λ text. TextExpands m.state.macros text (Ok [])) (sym none) (record { answer = Ok []; expands = empty; is = refl }));
             is = refl;
           };
-          simulates = subst (Simulates s names files w config) same simulates;
+          simulates = subst (Simulates s names files w config) (ap (λ b. record m { state = if b then put_out m.state output else m.state }) (sym acting)) (record {
+            active = simulates.active;
+            acting = simulates.acting;
+            sections = simulates.sections;
+            prepared = record { live = simulates.prepared.live; fault = simulates.prepared.fault };
+            text = λ _. text-as none refl (text-closes m.state gathered list has [] list (sym (append-nil list)));
+            macros = simulates.macros;
+            once = simulates.once;
+          });
         }
     arrives config m simulates false idle = record {
       machine = closing_run m (Ok []);
@@ -252,13 +266,19 @@ module _ (files names more : List (List ℕ)) {old mid new : Sets} (keeps : Keep
         ∙ (ap (λ fs. fs ++ map (seen_fault files) (faults_at new e.faults.items c)) stored.prepared.fault
         ∙ ap (λ fs. option_to_list m.fault ++ map (seen_fault files) fs) (faults_at-Keeps e.faults.items c later answer.faults_own listed_mid))))
 
-    output-now : m.fault ≡ None → shown (items_at new next.prepared.list c) ≡ m.state.output ++ shown (if is_none m.fault && none then items_at mid e.list c else [])
-    output-now no_fault =
+    abbrev gathered-before : List Token
+    gathered-before = map (seen names files) (items_at old w.gathered c)
+
+    abbrev put-before : List Token
+    put-before = map (seen names files) (items_at old w.prepared.list c)
+
+    put-now : shown (items_at new next.prepared.list c) ≡ put-before ++ shown (if is_none m.fault && none then items_at mid e.list c else [])
+    put-now =
         ap (λ xs. shown (items_at new xs c)) puts.list
         ∙ (ap (λ xs. shown xs) (items_at-append new w.prepared.list puts.added c)
         ∙ (map-append (seen more files) (items_at new w.prepared.list c) (items_at new puts.added c)
-        ∙ (ap (λ xs. xs ++ shown (items_at new puts.added c)) (stored.prepared.output no_fault)
-        ∙ ap (λ xs. m.state.output ++ shown xs) (puts.put.at c listed_mid ∙ ap (λ b. if b && none then items_at mid e.list c else []) expanded.prepared.live))))
+        ∙ (ap (λ xs. xs ++ shown (items_at new puts.added c)) (shown-before grows files (Keeps-trans keeps later) w.prepared.list c owns.prepared.list held.list listed)
+        ∙ ap (λ xs. put-before ++ shown xs) (puts.put.at c listed_mid ∙ ap (λ b. if b && none then items_at mid e.list c else []) expanded.prepared.live))))
 
     run-now : items_at new next.gathered c ≡ (if (is_none m.fault && none) && not (acts m) then items_at mid w.gathered c else [])
     run-now =
@@ -271,15 +291,15 @@ module _ (files names more : List (List ℕ)) {old mid new : Sets} (keeps : Keep
     become run output fault = record m { state = record m.state { run = run; output = output }; fault = fault }
 
     simulates-next : (run output : List Token) (fault : Option Fault) → (is_none m.fault && none) ≡ is_none fault → (acts m && none) ≡ (m.active && is_none fault)
-        → (fault ≡ None → shown (items_at new next.prepared.list c) ≡ output)
         → option_to_list m.fault ++ map (seen_fault files) (faults_at mid e.faults.items c) ≡ option_to_list fault
-        → (fault ≡ None → shown (items_at new next.gathered c) ≡ run) → Simulates new more files next c (become run output fault)
-    simulates-next run output fault live acting output_is fault_is run_is = record {
+        → (fault ≡ None → HasText (become run output fault).state (shown (items_at new next.gathered c)) (shown (items_at new next.prepared.list c)))
+        → Simulates new more files next c (become run output fault)
+    simulates-next run output fault live acting fault_is text = record {
       active = ap (λ (g : Cond). new.has g.0 c) puts.group ∙ stored.active;
       acting = acting-now ∙ acting;
       sections = ap (λ (v : Vec Section Global). map (section_at new c) (reverse v.items)) puts.sections ∙ stored.sections;
-      prepared = record { live = live-now ∙ live; output = output_is; fault = faults-now ∙ fault_is };
-      run = run_is;
+      prepared = record { live = live-now ∙ live; fault = faults-now ∙ fault_is };
+      text = text;
       macros = λ none_now name. ap (λ t. macros_at new more t c name) puts.table ∙ stored.macros (none-before m.fault fault none live none_now) name;
       once = λ none_now name. ap (λ (o : Vec OnceFile Global). once_at new files o.items c name) puts.once ∙ stored.once (none-before m.fault fault none live none_now) name;
     }
@@ -287,9 +307,10 @@ module _ (files names more : List (List ℕ)) {old mid new : Sets} (keeps : Keep
     macros_are : m.fault ≡ None → macros_at old names w.table c ≡ m.state.macros
     macros_are no_fault = λ i. λ name. simulates.macros no_fault name i
 
-    expands-run : (r : Result (List Token) Fault) → m.fault ≡ None → TextExpands (macros_at old names w.table c) (map (seen names files) (items_at old w.gathered c)) r
-        → TextExpands m.state.macros m.state.run r
-    expands-run r no_fault x = subst (λ macros. TextExpands macros m.state.run r) (macros_are no_fault) (subst (λ text. TextExpands (macros_at old names w.table c) text r) (simulates.run no_fault) x)
+    expands-run : (r : Result (List Token) Fault) (no_fault : m.fault ≡ None) → TextExpands (macros_at old names w.table c) gathered-before r
+        → TextExpands m.state.macros m.state.run (behind_these (map token_of (simulates.text no_fault).out) r)
+    expands-run r no_fault x =
+        text-expands m.state gathered-before put-before (simulates.text no_fault) r (subst (λ macros. TextExpands macros gathered-before r) (macros_are no_fault) x)
 
     module _ (acting : acts m ≡ true) where
       no_fault : m.fault ≡ None
@@ -304,25 +325,27 @@ module _ (files names more : List (List ℕ)) {old mid new : Sets} (keeps : Keep
           ∙ (ap (λ b. if (is_none m.fault && none) && not b then items_at mid w.gathered c else []) acting
           ∙ ap (λ b. if b then items_at mid w.gathered c else []) (and_false (is_none m.fault && none))))
 
+      abbrev put-first : List Token
+      put-first = map token_of (simulates.text no_fault).out
+
       arrives-as : (r : Result (List Token) Fault) → Stands r (shown (items_at mid e.list c)) (map (seen_fault files) (faults_at mid e.faults.items c))
-          → Simulates new more files next c (closing_run m r)
+          → Simulates new more files next c (closing_run m (behind_these put-first r))
       arrives-as (Ok output) stands =
           let all : none ≡ true = empty-seen (seen_fault files) (faults_at mid e.faults.items c) stands.1 in
-          subst (Simulates new more files next c) (ap (λ b. record m { state = if b then record m.state { run = []; output = m.state.output ++ output } else m.state }) (sym acting))
-          (simulates-next [] (m.state.output ++ output) m.fault
+          subst (Simulates new more files next c) (ap (λ b. record m { state = if b then put_out m.state (put-first ++ output) else m.state }) (sym acting))
+          (simulates-next [] (m.state.output ++ (put-first ++ output)) m.fault
           (ap (λ b. is_none m.fault && b) all ∙ and_true (is_none m.fault))
           (ap (λ b. acts m && b) all ∙ and_true (acts m))
-          (λ n. output-now n ∙ (ap (λ b. m.state.output ++ shown (if b && none then items_at mid e.list c else [])) live
-          ∙ (ap (λ b. m.state.output ++ shown (if b then items_at mid e.list c else [])) all ∙ ap (λ xs. m.state.output ++ xs) stands.0)))
           (ap (λ fs. option_to_list m.fault ++ fs) stands.1 ∙ append-nil (option_to_list m.fault))
-          (λ n. no-run))
+          (λ n. text-as no-run refl (text-closes m.state gathered-before put-before (simulates.text no_fault) output (shown (items_at new next.prepared.list c))
+          (put-now ∙ (ap (λ b. put-before ++ shown (if b && none then items_at mid e.list c else [])) live
+          ∙ (ap (λ b. put-before ++ shown (if b then items_at mid e.list c else [])) all ∙ ap (λ xs. put-before ++ xs) stands.0))))))
       arrives-as (Err fault) stands =
           let some : none ≡ false = some-seen (seen_fault files) (faults_at mid e.faults.items c) fault [] stands in
           subst (Simulates new more files next c) (ap (λ b. record m { fault = if b then Some fault else m.fault }) (sym acting))
           (simulates-next m.state.run m.state.output (Some fault)
           (ap (λ b. is_none m.fault && b) some ∙ and_false (is_none m.fault))
           (ap (λ b. acts m && b) some ∙ (and_false (acts m) ∙ sym (and_false m.active)))
-          (λ n. absurd (cc))
           (ap (λ fs. option_to_list m.fault ++ fs) stands ∙ ap (λ (o : Option Fault). option_to_list o ++ fault ∷ []) no_fault)
           (λ n. absurd (cc)))
 
@@ -334,21 +357,22 @@ module _ (files names more : List (List ℕ)) {old mid new : Sets} (keeps : Keep
         (simulates-next m.state.run m.state.output m.fault
         (ap (λ b. is_none m.fault && b) all ∙ and_true (is_none m.fault))
         (ap (λ b. acts m && b) all ∙ and_true (acts m))
-        (λ n. output-now n ∙ (ap (λ xs. m.state.output ++ shown (if is_none m.fault && none then xs else [])) nothing.list
-        ∙ (ap (λ xs. m.state.output ++ shown xs) (if_same (is_none m.fault && none) []) ∙ append-nil m.state.output)))
         (ap (λ fs. option_to_list m.fault ++ map (seen_fault files) fs) nothing.faults ∙ append-nil (option_to_list m.fault))
-        (λ n. ap (λ xs. shown xs) (run-now
+        (λ n. text-as (ap (λ xs. shown xs) (run-now
         ∙ (ap (λ b. if (is_none m.fault && none) && not b then items_at mid w.gathered c else []) idle
         ∙ (ap (λ b. if (is_none m.fault && b) && true then items_at mid w.gathered c else []) all
         ∙ ap (λ (o : Option Fault). if (is_none o && true) && true then items_at mid w.gathered c else []) n)))
-        ∙ expanded.run n))
+        ∙ shown-before grows files keeps w.gathered c owns.gathered held.gathered listed)
+        (put-now ∙ (ap (λ xs. put-before ++ shown (if is_none m.fault && none then xs else [])) nothing.list
+        ∙ (ap (λ xs. put-before ++ shown xs) (if_same (is_none m.fault && none) []) ∙ append-nil put-before)))
+        (simulates.text n)))
 
     arrives : (b : Bool) → acts m ≡ b → Arrives new more files next c (Closed m)
     arrives true acting =
         let x = expands c listed (simulates.acting ∙ acting) in
         record {
-          machine = closing_run m x.answer;
-          done = record { answer = x.answer; expands = λ _. expands-run x.answer (no_fault acting) x.expands; is = refl };
+          machine = closing_run m (behind_these (put-first acting) x.answer);
+          done = record { answer = behind_these (put-first acting) x.answer; expands = λ _. expands-run x.answer (no_fault acting) x.expands; is = refl };
           simulates = arrives-as acting x.answer x.stands;
         }
     arrives false idle = record {
@@ -401,22 +425,21 @@ module _ (files names more : List (List ℕ)) {old mid new : Sets} (keeps : Keep
   module _ (plain : ClosesPlain old names files w) where
     chosen-plain : (c : List ℕ) → IsConfig old.arities c → (b : Bool) (r : Result (List Token) Fault)
         → Stands r (map (seen more files) (items_at mid e.list c)) (map (seen_fault files) (faults_at mid e.faults.items c))
-        → ((output : List Token) → r ≡ Ok output → All (λ (t : Token). has_no_newline t.spelling ≡ true) output)
+        → (b ≡ true → (output : List Token) → r ≡ Ok output → All (λ (t : Token). has_no_newline t.spelling ≡ true) output)
         → All (λ (t : base_token.Token). is_plain more t ≡ true) (if b && has_none mid e.faults.items c then items_at mid e.list c else [])
-    chosen-plain c listed b (Ok output) stands all =
-        if-all (λ (t : base_token.Token). is_plain more t ≡ true) (b && has_none mid e.faults.items c) (items_at mid e.list c) (plain-seen more files (items_at mid e.list c) output stands.0 (all output refl))
-    chosen-plain c listed b (Err fault) stands all =
+    chosen-plain c listed false r stands all = All-nil (λ (t : base_token.Token). is_plain more t ≡ true)
+    chosen-plain c listed true (Ok output) stands all =
+        if-all (λ (t : base_token.Token). is_plain more t ≡ true) (has_none mid e.faults.items c) (items_at mid e.list c) (plain-seen more files (items_at mid e.list c) output stands.0 (all refl output refl))
+    chosen-plain c listed true (Err fault) stands all =
         let some = some-seen (seen_fault files) (faults_at mid e.faults.items c) fault [] stands in
-        subst (λ xs. All (λ (t : base_token.Token). is_plain more t ≡ true) xs)
-        (sym (ap (λ n. if b && n then items_at mid e.list c else []) some ∙ ap (λ n. if n then items_at mid e.list c else []) (and_false b)))
-        (All-nil (λ (t : base_token.Token). is_plain more t ≡ true))
+        subst (λ xs. All (λ (t : base_token.Token). is_plain more t ≡ true) xs) (sym (ap (λ n. if n then items_at mid e.list c else []) some)) (All-nil (λ (t : base_token.Token). is_plain more t ≡ true))
 
     added-plain : (c : List ℕ) → IsConfig old.arities c → (b : Bool) → old.has w.acting.0 c ≡ b
         → All (λ (t : base_token.Token). is_plain more t ≡ true) (if mid.has w.prepared.live.0 c && has_none mid e.faults.items c then items_at mid e.list c else [])
     added-plain c listed true acting =
         let x = expands c listed acting in
         chosen-plain c listed (mid.has w.prepared.live.0 c) x.answer x.stands
-        (λ output is_ok. plain c listed acting output (subst (TextExpands (macros_at old names w.table c) (map (seen names files) (items_at old w.gathered c))) is_ok x.expands))
+        (λ live output is_ok. plain c listed (sym (keeps.at w.prepared.live.0 c owns.prepared.live listed) ∙ live) output (subst (TextExpands (macros_at old names w.table c) (map (seen names files) (items_at old w.gathered c))) is_ok x.expands))
     added-plain c listed false idle =
         if-all (λ (t : base_token.Token). is_plain more t ≡ true) (mid.has w.prepared.live.0 c && has_none mid e.faults.items c) (items_at mid e.list c)
         (subst (λ xs. All (λ (t : base_token.Token). is_plain more t ≡ true) xs) (sym (others c listed idle).list) (All-nil (λ (t : base_token.Token). is_plain more t ≡ true)))

@@ -10,6 +10,7 @@ use Rattle.sc_base.specs.declared.id.Cond.{Cond}
 use Rattle.sc_base.specs.declared.id.FileId.{FileId}
 use Rattle.sc_base.specs.declared.place.Place.{Place}
 use Rattle.sc_base.specs.Seen.{seen, text_at}
+use Rattle.sc_guarded.proofs.ItemLemmas.{items_at-Keeps}
 use Rattle.sc_guarded.specs.Items.{items_at, seen_fault}
 use Rattle.sc_lines.specs.Nests.{seen_lines}
 use Rattle.sc_model.proofs.SetLemmas.{IsConfig-Keeps, IsConfig-kept, Keeps-trans}
@@ -22,9 +23,11 @@ use Rattle.sc_model.specs.Growth.{Extends}
 use Rattle.sc_model.specs.Token.{Token, in_file}
 use Rattle.sc_model.specs.declared.standard.Standard.{Standard}
 use Rattle.sc_prep.proofs.BetweenRuns.{enters-run}
-use Rattle.sc_prep.proofs.EnterMoves.{acts-unfaulty, arrived-at, begins-idle, begins-start, entering, idle, not-entered, refused-at, refused-here, refused-not, refuses-inside, resumed, resumes}
+use Rattle.sc_prep.proofs.EnterMoves.{acts-unfaulty, arrived-at, begins-idle, begins-start, entering, idle, not-entered, put-before, put-inside, refused-at, refused-here, refused-not, refuses-inside, resumed, resumes}
 use Rattle.sc_prep.proofs.FileWalk.{LeftBy, covers-entered, covers-idle}
-use Rattle.sc_prep.proofs.NamedFiles.{simulates-later}
+use Rattle.sc_prep.proofs.NamedFiles.{items-later, simulates-later}
+use Rattle.sc_prep.proofs.SettledText.{nothing-settled, text-as, text-empty}
+use Rattle.sc_prep.specs.Gathered.{HasText}
 use Rattle.sc_prep.proofs.WalkMoves.{owns-kept, sections-kept, simulates-kept}
 use Rattle.sc_prep.specs.Closes.{RefusesEach}
 use Rattle.sc_prep.specs.Contents.{Agrees, AreContents, AreHeldLines, AreLinesOf, IsContent, IsHeldContent, RefusesAll, content_at, nested, refused}
@@ -182,19 +185,33 @@ module _ {old mid : Sets} {names : List (List ℕ)} {w : Walk} {within : Cond} (
         abbrev first : State
         first = entering entry.depth (text_at files entry.file.0) m.state
 
+        abbrev gathered-then : List Token
+        gathered-then = map (seen more more_files) (items_at new around.gathered config)
+
         -- what was gathered around the file
-        waiting : m.fault ≡ None → map (seen more more_files) (items_at new around.gathered config) ≡ m.state.run
+        waiting : m.fault ≡ None → HasText m.state gathered-then (map (seen more more_files) (items_at new w.prepared.list config))
         waiting none =
             let all = Keeps-trans whole latest in
-            ap (λ (a : Around). map (seen more more_files) (items_at new a.gathered config)) begins.around_is
-            ∙ (simulates-later grows files_grow new w config m (IsTable-Keeps all is) held (simulates-kept all w owns names files config m listed is at)).run none
+            text-as (ap (λ (a : Around). map (seen more more_files) (items_at new a.gathered config)) begins.around_is) refl
+            ((simulates-later grows files_grow new w config m (IsTable-Keeps all is) held (simulates-kept all w owns names files config m listed is at)).text none)
 
-        -- the machine behind the file
-        goes-on : (n : Machine) → Simulates last more more_files walked config n → (run : List Token) → (n.fault ≡ None → m.fault ≡ None) → m.state.run ≡ run
-            → Simulates new more more_files next config (resumed m n run)
-        goes-on n there run unfaulty is_run =
-            resumes latest more more_files walked next around leaves walked_owns walked_is around-group around-sections config (IsConfig-Keeps whole listed) m n there
-            group-then sections-then run (λ none. waiting (unfaulty none) ∙ is_run)
+        -- what was put out before the file
+        put-then : map (seen more more_files) (items_at new w.prepared.list config) ≡ map (seen names files) (items_at mid w.prepared.list config)
+        put-then =
+            items-later grows files_grow new w.prepared.list config held.list
+            ∙ ap (map (seen names files)) (items_at-Keeps w.prepared.list config (Keeps-trans later latest) (owns-kept keeps w owns).prepared.list (IsConfig-Keeps keeps listed))
+
+        -- the machine behind the file, where its run was closed there
+        module _ (n : Machine) (there : Simulates last more more_files walked config n) (unrun : n.state.run ≡ []) where
+          put-last : n.fault ≡ None → map (seen more more_files) (items_at new walked.prepared.list config) ≡ n.state.output
+          put-last none =
+              put-inside latest more more_files walked next around leaves walked_owns walked_is around-group around-sections config (IsConfig-Keeps whole listed) m n there
+              group-then sections-then none unrun
+
+          goes-on : (run output : List Token) → (n.fault ≡ None → HasText (resumed m n run output).state gathered-then n.state.output) → Simulates new more more_files next config (resumed m n run output)
+          goes-on run output text =
+              resumes latest more more_files walked next around leaves walked_owns walked_is around-group around-sections config (IsConfig-Keeps whole listed) m n there
+              group-then sections-then run output (λ none. text-as refl (put-last none) (text none))
 
         left-by : IsBetweenRuns m → (n : Machine) → Simulates last more more_files walked config n → mid.has within.0 config ≡ true → (e : Result State Fault)
             → Enters x file (record m.state { depth = entry.depth }) e → LeftBy e n → Arrives new more more_files next config (EntersFile x config m)
@@ -205,7 +222,9 @@ module _ {old mid : Sets} {names : List (List ℕ)} {w : Walk} {within : Cond} (
               machine = arriving m (Ok (back m.state t));
               done = enters-file config m listed at x (text_at files entry.file.0) has.bytes refl has.is (Ok t) entered here;
               simulates = subst (Simulates new more more_files next config) (arrived-at x (text_at files entry.file.0) entry.depth m n t both.1 left)
-                  (goes-on n there n.state.run (λ none. acts-unfaulty m both.1) (between both.1 ∙ sym unrun));
+                  (goes-on n there unrun n.state.run n.state.output
+                  (λ none. nothing-settled (resumed m n n.state.run n.state.output).state gathered-then n.state.output
+                  (unrun ∙ sym (text-empty m.state gathered-then _ (between both.1) (waiting (acts-unfaulty m both.1))).0) refl));
             }
         left-by between n there here (Err fault) entered left =
             let both = both-enter config m listed at here in
@@ -225,13 +244,14 @@ module _ {old mid : Sets} {names : List (List ℕ)} {w : Walk} {within : Cond} (
             let entered = covers-entered x file (record m.state { depth = entry.depth }) has.are.lexemes has.are.group has.are.few has.are.lexed lines-are has.are.tree after.done in
             left-by between after.machine after.simulates here entered.end entered.enters entered.leaves
         entered-by between false out =
-            let after = walks.at config (idle m) (IsConfig-Keeps keeps listed) (begins-idle mid names files w begun within around config m begins (stays config m listed at) out) (simulates.idles refl refl) in
-            let still : after.machine ≡ idle m = covers-idle (idle m) has.are.tree refl after.done in
+            let output = put-before mid names files w begun within around config m begins (stays config m listed at) in
+            let after = walks.at config (idle m output) (IsConfig-Keeps keeps listed) (begins-idle mid names files w begun within around config m begins (stays config m listed at) out) (simulates.idles refl refl) in
+            let still : after.machine ≡ idle m output = covers-idle (idle m output) has.are.tree refl after.done in
             record {
               machine = m;
               done = enters-not config m listed at x out;
-              simulates = subst (λ (k : Machine). Simulates new more more_files next config (resumed m k m.state.run)) still
-                  (goes-on after.machine after.simulates m.state.run (λ none. ap (λ (k : Machine). k.fault) (sym still) ∙ none) refl);
+              simulates = goes-on (idle m output) (subst (Simulates last more more_files walked config) still after.simulates) refl m.state.run m.state.output
+                  (λ none. text-as refl (sym put-then) (waiting none));
             }
 
       pub leads-inside : Leads files names old w more_files more new next IsBetweenRuns (EntersFile x)
@@ -265,7 +285,7 @@ module _ {old mid : Sets} {names : List (List ℕ)} {w : Walk} {within : Cond} (
               record { macros = state.macros; run = state.run; file = path },
             )
         by config was m at between state false out = (
-          idle m,
+          idle m (put-before mid names files w begun within around config m begins (stays config m was at)),
           begins-idle mid names files w begun within around config m begins (stays config m was at) out,
           simulates.idles refl refl,
           record { macros = state.macros; run = tt; file = state.file },

@@ -16,7 +16,9 @@ use Rattle.sc_model.specs.Token.{Token}
 use Rattle.sc_prep.proofs.Machine.{after}
 use Rattle.sc_prep.proofs.WalkMoves.{simulates-kept, sections-kept}
 use Rattle.sc_prep.specs.Closes.{RefusesEach, has_none, is_empty}
+use Rattle.sc_prep.proofs.SettledText.{nothing-settled, text-empty}
 use Rattle.sc_prep.specs.Entering.{Begins, Leaves}
+use Rattle.sc_prep.specs.Gathered.{HasText}
 use Rattle.sc_prep.specs.Includes.{EntersAt, elsewhere, inert, left_out}
 use Rattle.sc_prep.specs.Machine.{Machine, acts, arriving, start}
 use Rattle.sc_prep.specs.Simulates.{IsBetweenRuns, Owns, OwnsSection, Simulates, section_at}
@@ -32,17 +34,18 @@ acts-unfaulty m e = by m.active m.fault e
     by true (Some f) e = cc
     by false (Some f) e = cc
 
--- the machine of a configuration that does not enter the file, of which nothing was gathered
-abbrev pub idle : Machine → Machine
-idle m = record m { active = false; sections = []; state = record m.state { run = [] } }
+-- the machine of a configuration that does not enter the file, of which nothing was gathered: this
+-- was put out
+abbrev pub idle : Machine → List Token → Machine
+idle m output = record m { active = false; sections = []; state = record m.state { run = []; output = output } }
 
 -- the state with which a file is entered
 abbrev pub entering : ℕ → List ℕ → State → State
 entering depth name s = record s { depth = depth; file = name }
 
 -- the machine around a file, behind it
-abbrev pub resumed : Machine → Machine → List Token → Machine
-resumed m n run = record n { active = m.active; sections = m.sections; state = record (back m.state n.state) { run = run } }
+abbrev pub resumed : Machine → Machine → (run output : List Token) → Machine
+resumed m n run output = record n { active = m.active; sections = m.sections; state = record (back m.state n.state) { run = run; output = output } }
 
 -- before the first line of the file
 module _ (s : Sets) (names files : List (List ℕ)) (w next : Walk) (within : Cond) (around : Around) (config : List ℕ) (m : Machine)
@@ -50,13 +53,16 @@ module _ (s : Sets) (names files : List (List ℕ)) (w next : Walk) (within : Co
   none-open : map (section_at s config) (reverse next.sections.items) ≡ []
   none-open = ap (λ xs. map (section_at s config) (reverse xs)) begins.sections
 
-  pub begins-idle : s.has within.0 config ≡ false → Simulates s names files next config (idle m)
-  begins-idle out = subst (λ (v : Walk). Simulates s names files v config (idle m)) (sym begins.is) (record {
+  abbrev pub put-before : List Token
+  put-before = map (seen names files) (items_at s w.prepared.list config)
+
+  pub begins-idle : s.has within.0 config ≡ false → Simulates s names files next config (idle m put-before)
+  begins-idle out = subst (λ (v : Walk). Simulates s names files v config (idle m put-before)) (sym begins.is) (record {
     active = out;
     acting = out;
     sections = none-open;
-    prepared = record { live = at.prepared.live; output = at.prepared.output; fault = at.prepared.fault };
-    run = λ none. refl;
+    prepared = record { live = at.prepared.live; fault = at.prepared.fault };
+    text = λ none. nothing-settled (idle m put-before).state [] put-before refl refl;
     macros = at.macros;
     once = at.once;
   })
@@ -68,8 +74,9 @@ module _ (s : Sets) (names files : List (List ℕ)) (w next : Walk) (within : Co
         active = here;
         acting = here;
         sections = none-open;
-        prepared = record { live = at.prepared.live ∙ ap is_none none; output = λ _. at.prepared.output none; fault = at.prepared.fault ∙ ap option_to_list none };
-        run = λ _. sym (between acting);
+        prepared = record { live = at.prepared.live ∙ ap is_none none; fault = at.prepared.fault ∙ ap option_to_list none };
+        text = λ _. nothing-settled (entering depth name m.state) [] put-before (between acting)
+            (text-empty m.state (map (seen names files) (items_at s w.gathered config)) put-before (between acting) (at.text none)).1;
         macros = λ _. at.macros none;
         once = λ _. at.once none;
       })
@@ -91,14 +98,22 @@ module _ {old new : Sets} (keeps : Keeps old new) (names files : List (List ℕ)
     acting-now : new.has next.acting.0 config ≡ (m.active && is_none n.fault)
     acting-now = leaves.acting.at config (IsConfig-Keeps keeps listed) ∙ (ap (λ b. b && old.has w.prepared.live.0 config) group ∙ ap (λ b. m.active && b) at.prepared.live)
 
-    -- the machine goes on in the state around, with the run that was gathered there
-    pub resumes : (run : List Token) → (n.fault ≡ None → map (seen names files) (items_at new around.gathered config) ≡ run) → Simulates new names files next config (resumed m n run)
-    resumes run gathered = subst (λ (v : Walk). Simulates new names files v config (resumed m n run)) (sym leaves.is) (record {
+    abbrev put-now : List Token
+    put-now = map (seen names files) (items_at new w.prepared.list config)
+
+    -- what was put out in the file where its run was closed
+    pub put-inside : n.fault ≡ None → n.state.run ≡ [] → put-now ≡ n.state.output
+    put-inside none unrun = (text-empty n.state (map (seen names files) (items_at new w.gathered config)) put-now unrun (kept.text none)).1
+
+    -- the machine goes on in the state around, with the text that was gathered there
+    pub resumes : (run output : List Token) → (n.fault ≡ None → HasText (resumed m n run output).state (map (seen names files) (items_at new around.gathered config)) put-now)
+        → Simulates new names files next config (resumed m n run output)
+    resumes run output text = subst (λ (v : Walk). Simulates new names files v config (resumed m n run output)) (sym leaves.is) (record {
       active = active-now;
       acting = acting-now;
       sections = sections-now;
-      prepared = record { live = kept.prepared.live; output = kept.prepared.output; fault = kept.prepared.fault };
-      run = gathered;
+      prepared = record { live = kept.prepared.live; fault = kept.prepared.fault };
+      text = text;
       macros = kept.macros;
       once = kept.once;
     })
@@ -111,10 +126,9 @@ module _ {old new : Sets} (keeps : Keeps old new) (names files : List (List ℕ)
       sections = sections-now;
       prepared = record {
         live = kept.prepared.live ∙ ap is_none told;
-        output = λ none. cc;
         fault = kept.prepared.fault ∙ ap option_to_list told;
       };
-      run = λ none. cc;
+      text = λ none. cc;
       macros = λ none. cc;
       once = λ none. cc;
     })
@@ -165,10 +179,9 @@ module _ {old new : Sets} (keeps : Keeps old new) (names files : List (List ℕ)
     sections = refused-walk.sections;
     prepared = record {
       live = live-now ∙ (ap (λ b. is_none m.fault && is_empty (if b then fault ∷ [] else [])) out ∙ and-true (is_none m.fault));
-      output = refused-walk.prepared.output;
       fault = faults-now own ∙ (ap (λ b. option_to_list m.fault ++ (if b then seen_fault files fault ∷ [] else [])) out ∙ append-nil (option_to_list m.fault));
     };
-    run = refused-walk.run;
+    text = refused-walk.text;
     macros = refused-walk.macros;
     once = refused-walk.once;
   })
@@ -180,10 +193,9 @@ module _ {old new : Sets} (keeps : Keeps old new) (names files : List (List ℕ)
     sections = refused-walk.sections;
     prepared = record {
       live = live-now ∙ (ap (λ b. is_none m.fault && is_empty (if b then fault ∷ [] else [])) here ∙ and-false (is_none m.fault));
-      output = λ absurd_. cc;
       fault = faults-now own ∙ (ap (λ b. option_to_list m.fault ++ (if b then seen_fault files fault ∷ [] else [])) here ∙ ap (λ f. option_to_list f ++ seen_fault files fault ∷ []) none);
     };
-    run = λ absurd_. cc;
+    text = λ absurd_. cc;
     macros = λ absurd_. cc;
     once = λ absurd_. cc;
   })

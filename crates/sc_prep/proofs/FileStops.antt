@@ -25,7 +25,7 @@ use Rattle.sc_model.specs.declared.standard.Standard.{Standard}
 use Rattle.sc_prep.proofs.BetweenRuns.{refused-acts}
 use Rattle.sc_prep.proofs.ComesFrom.{comes-entered, comes-inert}
 use Rattle.sc_prep.proofs.EnterLeads.{HasLines, both-enter, stays, enters-again}
-use Rattle.sc_prep.proofs.EnterMoves.{begins-idle, begins-start, entering, idle}
+use Rattle.sc_prep.proofs.EnterMoves.{begins-idle, begins-start, entering, idle, put-before}
 use Rattle.sc_prep.proofs.Going.{Stage, Staged, came, searched, waits}
 use Rattle.sc_prep.proofs.Machine.{barrier-plain, runs-more, runs-none, said-barrier}
 use Rattle.sc_prep.proofs.Stopping.{here_at, moments-as}
@@ -156,4 +156,5 @@ module _ {standard : Standard} {old mid : Sets} {names : List (List ℕ)} {w beg
           )
       by m at between false out =
           let stands = begins-idle mid names files w begun inside around config m begins (stays files cond entry keeps inside_is owns is config m listed at) out in
-          absurd (comes-inert (idle m) has.are.tree refl (comes (idle m) stands (simulates.idles refl refl)).comes)
+          let k = idle m (put-before mid names files w begun inside around config m begins (stays files cond entry keeps inside_is owns is config m listed at)) in
+          absurd (comes-inert k has.are.tree refl (comes k stands (simulates.idles refl refl)).comes)

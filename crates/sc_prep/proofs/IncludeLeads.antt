@@ -21,13 +21,14 @@ use Rattle.sc_prep.proofs.CloseMoves.{plain-grown}
 use Rattle.sc_prep.proofs.Going.{Gone, Staged, closed-in, directories-plain, finds-staged, gone-then, line-later, staged-between, staged-plain, staged-takes, staged-then}
 use Rattle.sc_prep.proofs.LeadMoves.{contents-stay, leads-as, leads-one}
 use Rattle.sc_prep.proofs.NamedFiles.{line-plain}
-use Rattle.sc_prep.proofs.PlainRuns.{covers-plain, each-closes-plain}
+use Rattle.sc_prep.proofs.PlainRuns.{covers-plain, each-any}
 use Rattle.sc_prep.proofs.WalkLeads.{plain-later}
 use Rattle.sc_prep.specs.Contents.{Agrees, AreContents, KeepsContents, content_at}
 use Rattle.sc_prep.specs.Includes.{ArePartsOf, EntersAt, Finds, files_at}
 use Rattle.sc_prep.specs.Machine as machine
 use Rattle.sc_prep.specs.Machine.{Machine, Takes}
-use Rattle.sc_prep.specs.Printable.{AllPass, ArePlaced, ArePlainPaths, ClosesPlain, IsPlaced, is_plain}
+use Rattle.sc_prep.specs.Printable.{AllPass, ArePlaced, ArePlainPaths, IsPlaced, is_plain}
+use Rattle.sc_prep.specs.Footprints.{any_machine}
 use Rattle.sc_prep.specs.Simulates.{Closed, IsBetweenRuns, IsContext, IsIn, Leads, PlainEach, SimulatesOneOf}
 use Rattle.sc_prep.specs.declared.content.Contents.{Contents}
 use Rattle.sc_prep.specs.declared.entry.Entry.{Entry}
@@ -67,7 +68,7 @@ parts-later {old} {new} {was} {now} {parts} keeps read are = record {
 
 pub gone-closed : {space : Space} {a b : Sets} {names mid files : List (List ℕ)} {u v : Walk} {contents : Contents} {given : Type 0} {from : Machine → Type 0} → Keeps a b → Extends names mid
     → SimulatesOneOf files names a u mid b v (λ config m n. Closed m n)
-    → (ClosesPlain a names files u → AllPass (is_plain names) u.prepared.list → AllPass (is_plain mid) v.prepared.list)
+    → (PlainEach a names files u any_machine → AllPass (is_plain names) u.prepared.list → AllPass (is_plain mid) v.prepared.list)
     → Gone space a names files u contents b mid files v contents given from (λ x config m n. Closed m n)
 gone-closed {files = files} {contents = contents} {from = from} keeps names_grow closes plain = record {
   keeps = keeps;
@@ -75,7 +76,7 @@ gone-closed {files = files} {contents = contents} {from = from} keeps names_grow
   files_grow = Extends-refl files;
   read = contents-stay contents;
   leads = λ x context agreed. leads-one from closes;
-  plain = λ g x context agreed sound paths each list. plain (each-closes-plain each) list;
+  plain = λ g x context agreed sound paths each list. plain (each-any each) list;
   paths = λ g x context agreed sound paths each. paths;
 }
 

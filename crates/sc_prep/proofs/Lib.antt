@@ -45,6 +45,9 @@ pub mod ReadContent
 pub mod Refusing
 pub mod RunLemmas
 pub mod SaidMoves
+pub mod SettledLists
+pub mod SettledText
+pub mod SettleMoves
 pub mod StageRefusals
 pub mod Stages
 pub mod Stopping

@@ -92,8 +92,8 @@ no_fault-empty files (Some fault) [] is = cc
 no_fault-empty files (Some fault) (f ∷ fs) is = refl
 
 -- a configuration is live where it has no fault
-pub live-outcome : {s : Sets} {names files : List (List ℕ)} {p : Prepared} {config : List ℕ} {m : Machine} → IsOutcomeOf s names files p config m → s.has p.live.0 config ≡ has_none s p.faults.items config
-live-outcome {s} {names} {files} {p} {config} {m} is = is.live ∙ no_fault-empty files m.fault (faults_at s p.faults.items config) is.fault
+pub live-outcome : {s : Sets} {files : List (List ℕ)} {p : Prepared} {config : List ℕ} {m : Machine} → IsOutcomeOf s files p config m → s.has p.live.0 config ≡ has_none s p.faults.items config
+live-outcome {s} {files} {p} {config} {m} is = is.live ∙ no_fault-empty files m.fault (faults_at s p.faults.items config) is.fault
 
 module _ (space : Space) (outside : Files) (main config : List ℕ) where
   -- a file that refuses whoever enters it is accepted at no configuration
@@ -189,7 +189,7 @@ module _ {s : Sets} {space : Space} {names files : List (List ℕ)} {walk : Walk
     faults-one : next.prepared.faults.items ≡ fault ∷ []
     faults-one = refuses.faults ∙ ap (λ fs. fs ++ fault ∷ []) fresh.faults
 
-    ends-refused : (config : List ℕ) → IsConfig s.arities config → IsOutcomeOf next_sets names files next.prepared config (record (start (initial_state space main config)) { fault = Some (seen_fault files fault) })
+    ends-refused : (config : List ℕ) → IsConfig s.arities config → IsOutcomeOf next_sets files next.prepared config (record (start (initial_state space main config)) { fault = Some (seen_fault files fault) })
     ends-refused config listed =
         (refused-here keeps names files walk next fault refuses fresh.owns fresh.table config listed (start (initial_state space main config)) (fresh.starts main config listed)
         own (everywhere config listed) refl).prepared
@@ -227,22 +227,22 @@ module _ {s : Sets} {space : Space} {names files : List (List ℕ)} {walk : Walk
       (named : slice_get files file.0 ≡ Some main) (everywhere : (config : List ℕ) → IsConfig s.arities config → s.has cond.0 config ≡ true)
       (leads : Leads files names s walk more_files more next_sets next IsBetweenRuns (λ config m n. EntersAt x (text_at files file.0) 0 m (s.has cond.0 config) n)) where
     ends-entered : (config : List ℕ) → IsConfig s.arities config
-        → (n : Machine) × EntersAt x main 0 (start (initial_state space main config)) true n × IsOutcomeOf next_sets more more_files next.prepared config n
+        → (n : Machine) × EntersAt x main 0 (start (initial_state space main config)) true n × Simulates next_sets more more_files next config n
     ends-entered config listed =
         let first = start (initial_state space main config) in
         let end = leads.at config first listed (fresh.starts main config listed) (λ acting. refl) in (
           end.machine,
           subst (λ has. EntersAt x main 0 first has end.machine) (everywhere config listed)
               (subst (λ name. EntersAt x name 0 first (s.has cond.0 config) end.machine) (ap (λ (o : Option (List ℕ)). unwrap_or o []) named) end.done),
-          end.simulates.prepared,
+          end.simulates,
         )
 
     pub entered-live : (config : List ℕ) → IsConfig s.arities config → next_sets.has next.prepared.live.0 config ≡ has_none next_sets next.prepared.faults.items config
-    entered-live config listed = live-outcome (ends-entered config listed).2
+    entered-live config listed = live-outcome (ends-entered config listed).2.prepared
 
     entered-apart : AreApart next_sets next.prepared.faults.items
     entered-apart = record {
-      few = λ config listed. faults-few next_sets more_files next.prepared.faults.items config _ (ends-entered config (IsConfig-kept keeps listed)).2.fault;
+      few = λ config listed. faults-few next_sets more_files next.prepared.faults.items config _ (ends-entered config (IsConfig-kept keeps listed)).2.prepared.fault;
     }
 
     pub entered-shown : {standard : Standard} {holds : Option Files} {contents : Contents} → IsReady standard next_sets more more_files holds next contents → AllPass (is_plain more) next.prepared.list
@@ -257,7 +257,7 @@ module _ {s : Sets} {space : Space} {names files : List (List ℕ)} {walk : Walk
       → (config : List ℕ) → IsConfig s.arities config → IsOrdinary next_sets more more_files next.prepared (Pre space outside main config) config
   entered-is {next_sets} {more} {more_files} {next} keeps main outside file cond named everywhere leads config listed =
       let end = ends-entered keeps main file cond named everywhere leads config listed in
-      entered-ordinary next_sets more more_files next.prepared space outside main config end.1 end.2
+      entered-ordinary next_sets more more_files next.prepared space outside main config end.1 end.2.prepared _ end.2.text
 
   -- each footprint to which the main file comes is one of the configuration
   pub entered-stops : (main : List ℕ) (outside : Files) (file : FileId) (cond : Cond) → slice_get files file.0 ≡ Some main → (limit : ℕ) (stop : Stop)

@@ -1,5 +1,5 @@
 -- What walking the main file comes to.
-use Rattle.std.proofs.Common.{◌≡◌, ℕ, true, List, [], ◌∷◌, Some, None, Ok, Err, refl, sym, ap, ◌∙◌}
+use Rattle.std.proofs.Common.{◌≡◌, ℕ, true, List, [], ◌∷◌, map, Some, None, Ok, Err, refl, sym, ap, ◌∙◌}
 use Rattle.c11_directives.specs.Pre.{File, file_with, found_or, Enters, Includes, missing, entered, context_of, initial_state, search, Pre}
 use Rattle.c11_macros.specs.Macros.{initial_macros}
 use Rattle.sc_model.specs.declared.cause.Cause.TheVariants.{NotFound}
@@ -8,6 +8,12 @@ use Rattle.sc_model.specs.Growth.{Extends}
 use Rattle.sc_model.specs.Outside.{Files}
 use Rattle.sc_model.specs.Sets.{Sets}
 use Rattle.sc_model.specs.Space.{Space}
+use Rattle.sc_model.specs.Token.{Token}
+use Rattle.sc_base.specs.Seen.{seen}
+use Rattle.sc_guarded.specs.Items.{items_at}
+use Rattle.sc_prep.proofs.BetweenRuns.{enters-run}
+use Rattle.sc_prep.proofs.SettledText.{text-empty}
+use Rattle.sc_prep.specs.Gathered.{HasText}
 use Rattle.sc_prep.specs.declared.prepared.Prepared.{Prepared}
 use Rattle.sc_prep.specs.Includes.{EntersAt, inert, left_out, enters}
 use Rattle.sc_prep.specs.Machine.{Machine, start}
@@ -41,17 +47,18 @@ module _ (s : Sets) (names files : List (List ℕ)) (p : Prepared) (space : Spac
   includes-main f named there walks = entered f (finds-main outside main f named there) refl walks
 
   -- the main file was entered
-  pub entered-ordinary : {n : Machine} → EntersAt (context_of space outside) main 0 (start (initial_state space main config)) true n → IsOutcomeOf s names files p config n
+  pub entered-ordinary : {n : Machine} → EntersAt (context_of space outside) main 0 (start (initial_state space main config)) true n → IsOutcomeOf s files p config n
+      → (gathered : List Token) → (n.fault ≡ None → HasText n.state gathered (map (seen names files) (items_at s p.list config)))
       → IsOrdinary s names files p (Pre space outside main config) config
-  entered-ordinary (inert inactive) outcome = cc
-  entered-ordinary (left_out acting once) outcome = cc
-  entered-ordinary (enters f (Ok t) acting named there again walks) outcome = record {
+  entered-ordinary (inert inactive) outcome gathered text = cc
+  entered-ordinary (left_out acting once) outcome gathered text = cc
+  entered-ordinary (enters f (Ok t) acting named there again walks) outcome gathered text = record {
     answer = Ok t.output;
     preprocessed = record { end = Ok t; walked = includes-main f named there walks; is = refl };
-    stands = (outcome.output refl, outcome.fault);
+    stands = ((text-empty _ gathered _ (enters-run walks) (text refl)).1, outcome.fault);
     live = outcome.live;
   }
-  entered-ordinary (enters f (Err fault) acting named there again walks) outcome = record {
+  entered-ordinary (enters f (Err fault) acting named there again walks) outcome gathered text = record {
     answer = Err fault;
     preprocessed = record { end = Err fault; walked = includes-main f named there walks; is = refl };
     stands = outcome.fault;

@@ -2,11 +2,13 @@
 use Rattle.std.proofs.Common.{◌≡◌, ℕ, ◌&&◌, true, List, All, map, sym, subst, ◌∙◌}
 use Rattle.std.specs.Prelude.{is_none}
 use Rattle.c11_directives.specs.Footprints.{NameHas, Spot, Used}
+use Rattle.c11_macros.specs.Expansion.{IsWithin}
 use Rattle.c11_macros.specs.Text.{place_alone, unhidden}
 use Rattle.sc_base.specs.declared.id.Cond.{Cond}
 use Rattle.sc_base.specs.declared.stop.Stop.{Stop}
 use Rattle.sc_base.specs.declared.token.Token as base
 use Rattle.sc_base.specs.Seen.{seen}
+use Rattle.sc_expand.proofs.PlainTables.{entry_names, within-table}
 use Rattle.sc_expand.specs.Footprints.{StopsAtName}
 use Rattle.sc_guarded.proofs.ItemLemmas.{items_at-Keeps}
 use Rattle.sc_guarded.specs.Items.{items_at}
@@ -20,6 +22,7 @@ use Rattle.sc_prep.specs.Machine.{acts}
 use Rattle.sc_prep.proofs.ApartLemmas.{different}
 use Rattle.sc_prep.proofs.ExpressionMoves.{asked-at, right-none}
 use Rattle.sc_prep.proofs.NameFootprints.{name-as, name-footprints}
+use Rattle.sc_prep.proofs.SettledText.{text-name}
 use Rattle.sc_prep.proofs.Stopping.{stops-as}
 
 -- that of the run of each that acts
@@ -31,7 +34,8 @@ run-stops s names files w limit stop stops apart =
     (λ c f listed has m simulates _.
     let acting = sym simulates.acting ∙ has.0 in
     let clean = right-none m.active m.fault acting in
-    (acting, subst (λ text. NameHas m.state.macros text f) (simulates.run clean) (name-as (simulates.macros clean) has.1)))
+    let macros : macros_at s names w.table c ≡ m.state.macros = λ i name. simulates.macros clean name i in
+    (acting, text-name m.state _ _ (simulates.text clean) (subst (IsWithin (entry_names names w.table.entries.entries)) macros (within-table s names w.table c)) (name-as (simulates.macros clean) has.1)))
     (name-footprints s names files (macros_at s names w.table) w.acting.0 w.gathered limit stop (different names files w.gathered apart) stops)
 
 -- that of a list for those of a condition that were not refused

@@ -67,6 +67,7 @@ use Rattle.sc_space.specs.Settings.{is_directory}
 use Rattle.sc_space.specs.Sound.{IsSound}
 use Rattle.sc_table.proofs.Growth.{IsTable-Extends, IsTable-Keeps, macros_at-Extends}
 use Rattle.sc_table.specs.Table.{IsTable}
+use Rattle.sc_prep.proofs.SettledText.{text-as}
 
 -- ---- refusals
 
@@ -254,7 +255,7 @@ module _ {before now files more : List (List ℕ)} (grows : Extends before now) 
     once = held-more files_grow w.once.items held.once;
   }
 
-  items-later : (s : Sets) (list : List (Cond × base.Token)) (c : List ℕ) → ArePlaced before (length files) list → map (seen now more) (items_at s list c) ≡ map (seen before files) (items_at s list c)
+  pub items-later : (s : Sets) (list : List (Cond × base.Token)) (c : List ℕ) → ArePlaced before (length files) list → map (seen now more) (items_at s list c) ≡ map (seen before files) (items_at s list c)
   items-later s list c placed = tokens-later grows files_grow (items_at s list c) (items_at-All (IsPlaced before (length files)) s list c placed)
 
   pub simulates-later : (s : Sets) (w : Walk) (c : List ℕ) (m : Machine) → IsTable s before w.table → IsHeldWalk before (length files) any_token w → Simulates s before files w c m → Simulates s now more w c m
@@ -264,10 +265,9 @@ module _ {before now files more : List (List ℕ)} (grows : Extends before now) 
     sections = at.sections;
     prepared = record {
       live = at.prepared.live;
-      output = λ none. items-later s w.prepared.list c held.list ∙ at.prepared.output none;
       fault = faults-later s files_grow w.prepared.faults.items c (recursion_from_All (λ (f : base_fault.Fault). f.place.file.0 < length files) w.prepared.faults.items held.faults) ∙ at.prepared.fault;
     };
-    run = λ none. items-later s w.gathered c held.gathered ∙ at.run none;
+    text = λ none. text-as (items-later s w.gathered c held.gathered) (items-later s w.prepared.list c held.list) (at.text none);
     macros = λ none name. macros_at-Extends grows table c name ∙ at.macros none name;
     once = λ none name. once-later files_grow s w.once.items c name held.once ∙ at.once none name;
   }

@@ -1,17 +1,20 @@
 -- What `#pragma once` and other pragmas do to a walk.
-use Rattle.std.proofs.Common.{◌≡◌, ℕ, ◌<◌, ◌&&◌, ◌||◌, Bool, true, false, List, ◌∷◌, length, drop, get_or, Vec, Global, Some, refl, sym, ap, ◌∙◌, subst, if◌then◌else◌}
+use Rattle.std.proofs.Common.{◌≡◌, ℕ, ◌<◌, ◌&&◌, ◌||◌, Bool, true, false, List, ◌∷◌, length, drop, get_or, Vec, Global, Some, map, refl, sym, ap, ◌∙◌, subst, if◌then◌else◌}
 use Rattle.std.proofs.Math.Seq.{drop-cons}
 use Rattle.c11_directives.specs.declared.directive.Directive.TheVariants as directive
 use Rattle.c11_directives.specs.Lines.{Line}
 use Rattle.c11_directives.specs.Pre.{State, is_once, state_behind}
-use Rattle.sc_base.specs.Seen.{text_at}
+use Rattle.sc_base.specs.Seen.{seen, text_at}
 use Rattle.sc_base.specs.declared.token.Token.{Token}
+use Rattle.sc_guarded.specs.Items.{items_at}
 use Rattle.sc_lines.specs.Nests.{seen_line}
 use Rattle.sc_model.specs.Bytes.{same_bytes}
 use Rattle.sc_model.specs.Sets.{Sets, Keeps}
+use Rattle.sc_model.specs.Token as model
 use Rattle.sc_model.specs.declared.standard.Standard.{Standard}
 use Rattle.sc_prep.proofs.OnceLemmas.{behind-once, behind-other}
 use Rattle.sc_prep.proofs.WalkMoves.{owns-kept, simulates-kept}
+use Rattle.sc_prep.specs.Gathered.{HasText}
 use Rattle.sc_prep.specs.Machine.{acts, plain_by}
 use Rattle.sc_prep.specs.Once.{MarksFile, once_at}
 use Rattle.sc_prep.specs.Simulates.{Owns, Simulates, SimulatesStep}
@@ -20,10 +23,13 @@ use Rattle.sc_prep.specs.declared.walk.Walk.{Walk}
 use Rattle.sc_table.proofs.Growth.{IsTable-Keeps}
 
 -- what a pragma leaves as it is
-behind-same : {A : Type 0} (part : State → A) → ((s : State) (once : List (List ℕ)) → part (record s { once = once }) ≡ part s) → (b : Bool) (l : Line) (s : State)
-    → part (if b then state_behind s l directive.Pragma s.macros else s) ≡ part s
-behind-same part same true l s = same s (state_behind s l directive.Pragma s.macros).once
-behind-same part same false l s = refl
+behind-macros : (b : Bool) (l : Line) (s : State) (name : List ℕ) → (if b then state_behind s l directive.Pragma s.macros else s).macros name ≡ s.macros name
+behind-macros true l s name = refl
+behind-macros false l s name = refl
+
+behind-text : (b : Bool) (l : Line) (s : State) (gathered list : List model.Token) → HasText s gathered list → HasText (if b then state_behind s l directive.Pragma s.macros else s) gathered list
+behind-text true l s gathered list has = record { before = has.before; out = has.out; run = has.run; settles = has.settles; put = has.put }
+behind-text false l s gathered list has = has
 
 -- its file is marked in the configurations that act
 module _ (names : List (List ℕ)) {old new : Sets} (keeps : Keeps old new) (w : Walk) (owns : Owns old w) (once : Vec OnceFile Global) where
@@ -42,9 +48,9 @@ module _ (names : List (List ℕ)) {old new : Sets} (keeps : Keeps old new) (w :
               active = same.active;
               acting = same.acting;
               sections = same.sections;
-              prepared = record { live = same.prepared.live; output = λ none. same.prepared.output none ∙ sym (behind-same (λ (t : State). t.output) (λ _ _. refl) (acts m) l m.state); fault = same.prepared.fault };
-              run = λ none. same.run none ∙ sym (behind-same (λ (t : State). t.run) (λ _ _. refl) (acts m) l m.state);
-              macros = λ none name. same.macros none name ∙ sym (behind-same (λ (t : State). t.macros name) (λ _ _. refl) (acts m) l m.state);
+              prepared = record { live = same.prepared.live; fault = same.prepared.fault };
+              text = λ none. behind-text (acts m) l m.state (map (seen names files) (items_at new w.gathered config)) (map (seen names files) (items_at new w.prepared.list config)) (same.text none);
+              macros = λ none name. same.macros none name ∙ sym (behind-macros (acts m) l m.state name);
               once = λ none name.
                   marks.at files config name listed
                   ∙ (ap (λ b. (b && same_bytes name (text_at files token.place.file.0)) || once_at old files w.once.items config name) simulates.acting

@@ -1,5 +1,5 @@
 -- A machine that runs over lines that are spelled on one line keeps its macros and its text so.
-use Rattle.std.proofs.Common.{◌≡◌, ℕ, ◌<◌, ◌&&◌, Bool, true, false, List, [], ◌∷◌, All, length, map, Option, Some, None, Result, Ok, Err, refl, sym, ◌∙◌, subst}
+use Rattle.std.proofs.Common.{◌≡◌, ℕ, ◌<◌, Bool, true, false, List, [], ◌∷◌, ◌++◌, All, length, map, Option, Some, None, Result, Ok, Err, refl, sym, ◌∙◌, subst}
 use Rattle.std.proofs.lemmas.List.Elements.{All-get_or, All-weaker, recursion_from_All}
 use Rattle.std.proofs.lemmas.Option.{slice_get_within, unwrap_or-slice_get}
 use Rattle.std.specs.List.{AllByRecursion as Every}
@@ -33,6 +33,7 @@ use Rattle.sc_model.specs.Token.{Token}
 use Rattle.sc_model.specs.declared.standard.Standard.{Standard}
 use Rattle.sc_prep.specs.declared.walk.Walk.{Walk}
 use Rattle.sc_prep.specs.Machine.{Machine, acts, closing_run, opened_as, next_branch, branched_as, ended, defined_over, defined_as, changed_by, changing, plain_by, is_taken, step_by, arriving, Takes, takes, closes, carries, Runs}
+use Rattle.sc_prep.specs.Footprints.{any_machine}
 use Rattle.sc_prep.specs.Machine as machine
 use Rattle.sc_prep.specs.declared.entry.Entry.{Entry}
 use Rattle.sc_prep.specs.Printable.{ArePlainPaths, IsPlaced, IsPlainOrNewline, IsPlainState, IsPlainToken, ClosesPlain}
@@ -158,28 +159,34 @@ placed-plain standard names files ts placed paths all =
 
 -- ---- what a barrier puts out
 
-live : (active : Bool) (fault : Option Fault) → (active && is_none fault) ≡ true → fault ≡ None
-live true None e = refl
-live false None e = refl
-live true (Some fault) e = cc
-live false (Some fault) e = cc
+unfaulty : (fault : Option Fault) → is_none fault ≡ true → fault ≡ None
+unfaulty None e = refl
+unfaulty (Some fault) e = absurd (cc)
+
+every-behind : {A : Type 0} (C : A → Type 0) (xs ys : List A) → Every C (xs ++ ys) → Every C ys
+every-behind C [] ys all = all
+every-behind C (x ∷ xs) ys all = every-behind C xs ys all.1
 
 -- where the walk is at a machine that is so
 pub closes-plain : (s : Sets) (names files : List (List ℕ)) (w : Walk) (config : List ℕ) (m : Machine) → Simulates s names files w config m → IsPlainState m.state
-    → s.has w.acting.0 config ≡ true → (output : List Token) → TextExpands (macros_at s names w.table config) (map (seen names files) (items_at s w.gathered config)) (Ok output)
+    → s.has w.prepared.live.0 config ≡ true → (output : List Token) → TextExpands (macros_at s names w.table config) (map (seen names files) (items_at s w.gathered config)) (Ok output)
     → All (λ (t : Token). has_no_newline t.spelling ≡ true) output
-closes-plain s names files w config m at plain acting output expands =
-    let none = live m.active m.fault (sym at.acting ∙ acting) in
+closes-plain s names files w config m at plain live output expands =
+    let none = unfaulty m.fault (sym at.prepared.live ∙ live) in
     let macros : macros_at s names w.table config ≡ m.state.macros = λ i name. at.macros none name i in
-    let run = at.run none in
+    let has = at.text none in
     let here = subst (λ ms. TextExpands ms (map (seen names files) (items_at s w.gathered config)) (Ok output)) macros expands in
-    expands-plain m.state.macros plain.macros m.state.run output plain.run (subst (λ text. TextExpands m.state.macros text (Ok output)) run here)
+    expands-plain m.state.macros plain.macros (map (seen names files) (items_at s w.gathered config)) output (every-behind IsPlainToken has.before _ (subst (Every IsPlainToken) has.run plain.run)) here
 
 -- the runs of such a walk expand to tokens that are spelled on one line
 pub each-closes-plain : {s : Sets} {names files : List (List ℕ)} {w : Walk} {from : Machine → Type 0} → PlainEach s names files w from → ClosesPlain s names files w
-each-closes-plain {s} {names} {files} {w} plain config listed acting output expands =
+each-closes-plain {s} {names} {files} {w} plain config listed live output expands =
     let at = plain.each config listed in
-    closes-plain s names files w config at.0 at.1 at.3 acting output expands
+    closes-plain s names files w config at.0 at.1 at.3 live output expands
+
+-- whatever else holds of the machines
+pub each-any : {s : Sets} {names files : List (List ℕ)} {w : Walk} {from : Machine → Type 0} → PlainEach s names files w from → PlainEach s names files w any_machine
+each-any plain = record { each = λ config listed. let at = plain.each config listed in (at.0, at.1, tt, at.3) }
 
 -- what the machine does keeps it so
 pub each-leads : {old new : Sets} {names files more more_files : List (List ℕ)} {walk next : Walk} {from holds : Machine → Type 0} {does : List ℕ → Machine → Machine → Type 0} → Keeps old new

@@ -109,21 +109,33 @@ module _ {first old new : Sets} (before : Keeps first old) (keeps : Keeps old ne
 
 -- ---- refusals
 
-pub is_empty-one : (b : Bool) (f : Fault) → not b ≡ is_empty (if b then f ∷ [] else [])
+pub is_empty-one : {A : Type 0} (b : Bool) (f : A) → not b ≡ is_empty (if b then f ∷ [] else [])
 is_empty-one true f = refl
 is_empty-one false f = refl
 
-is_empty-append : (xs ys : List Fault) → is_empty (xs ++ ys) ≡ (is_empty xs && is_empty ys)
+is_empty-append : {A : Type 0} (xs ys : List A) → is_empty (xs ++ ys) ≡ (is_empty xs && is_empty ys)
 is_empty-append [] ys = refl
 is_empty-append (x ∷ xs) ys = refl
 
-and_assoc : (a b c : Bool) → ((a && b) && c) ≡ (a && (b && c))
+pub and_assoc : (a b c : Bool) → ((a && b) && c) ≡ (a && (b && c))
 and_assoc true b c = refl
 and_assoc false b c = refl
 
 and-true : (a : Bool) → a ≡ (a && true)
 and-true true = refl
 and-true false = refl
+
+-- one item more is left out
+pub without-one : {A : Type 0} {s : Sets} {left : ℕ} (all has : List ℕ → Bool) (before now : List ℕ → List A) (x : A) → ((c : List ℕ) → now c ≡ before c ++ (if has c then x ∷ [] else []))
+    → Denotes s left (λ c. (all c && is_empty (before c)) && not (has c)) → Denotes s left (λ c. all c && is_empty (now c))
+without-one all has before now x next told =
+    denotes-as (λ c. (all c && is_empty (before c)) && not (has c)) (λ c. all c && is_empty (now c))
+    (λ c listed. and_assoc (all c) (is_empty (before c)) (not (has c))
+    ∙ ap (λ b. all c && b) (ap (λ b. is_empty (before c) && b) (is_empty-one (has c) x)
+    ∙ (sym (is_empty-append (before c) (if has c then x ∷ [] else [])) ∙ ap is_empty (sym (next c))))) told
+
+pub without-nothing : (A : Type 0) (s : Sets) (all : ℕ) → IsCond s all → Denotes s all (λ c. s.has all c && is_empty {A = A} [])
+without-nothing A s all own = record { own = own; at = λ c listed. and-true (s.has all c) }
 
 -- the configurations of one fault are refused
 pub refuses-one : {old new : Sets} (keeps : Keeps old new) (w next : Walk) (fault : Fault)

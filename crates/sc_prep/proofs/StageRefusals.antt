@@ -87,7 +87,7 @@ module _ (files names more : List (List ℕ)) {old mid new : Sets} (keeps : Keep
           acting = same.acting;
           sections = same.sections;
           prepared = same.prepared;
-          run = same.run;
+          text = same.text;
           macros = λ clean name. still c name listed ∙ simulates.macros clean name;
           once = same.once;
         }
@@ -106,7 +106,6 @@ module _ (files names more : List (List ℕ)) {old mid new : Sets} (keeps : Keep
           sections = stored.sections;
           prepared = record {
             live = refuses.live.at c listed_new ∙ (ap (λ b. b && has_none mid faults c) at_mid.prepared.live ∙ (ap (λ b. is_none m.fault && b) none ∙ live-with m.fault fault));
-            output = λ clean. stored.prepared.output (none-first m.fault fault clean);
             fault =
                 ap (λ fs. map (seen_fault files) (faults_at new fs c)) refuses.faults
                 ∙ (ap (map (seen_fault files)) (faults_at-append new w.prepared.faults.items faults c)
@@ -115,7 +114,7 @@ module _ (files names more : List (List ℕ)) {old mid new : Sets} (keeps : Keep
                 ∙ (ap (λ fs. option_to_list m.fault ++ fs) (ap (map (seen_fault files)) (faults_at-Keeps faults c later own listed_mid) ∙ told)
                 ∙ faults-with m.fault fault fresh))));
           };
-          run = λ clean. stored.run (none-first m.fault fault clean);
+          text = λ clean. stored.text (none-first m.fault fault clean);
           macros = λ clean. stored.macros (none-first m.fault fault clean);
           once = λ clean. stored.once (none-first m.fault fault clean);
         })

@@ -22,8 +22,9 @@ use Rattle.sc_model.specs.Sets.{Sets, Keeps}
 use Rattle.sc_model.specs.declared.standard.Standard.{Standard}
 use Rattle.sc_prep.specs.Machine.{Carried, Decided, Machine, Takes, asks_by, carries, closes, ends_run, plain_by, step, step_by, takes}
 use Rattle.sc_prep.specs.Printable.{AllPass, IsHeldWalk, IsPlaced, StaysHeld, any_token, is_plain}
-use Rattle.sc_prep.specs.Simulates.{Closed, Simulates, SimulatesOneOf, SimulatesStep}
+use Rattle.sc_prep.specs.Simulates.{Closed, IsBetweenRuns, Simulates, SimulatesOneOf, SimulatesStep, StepsBetweenRuns}
 use Rattle.sc_prep.specs.declared.walk.Walk.{Walk}
+use Rattle.sc_prep.proofs.BetweenRuns.{closing-between}
 use Rattle.sc_prep.proofs.LineSteps.{line-grown, plain-is}
 use Rattle.sc_table.specs.Table.{IsTable}
 
@@ -102,7 +103,7 @@ takes-plain standard {names} files line d at mild none is moved x =
 -- a directive that ends the runs, which were closed
 pub takes-closed : (standard : Standard) {names more : List (List ℕ)} (files : List (List ℕ)) {old mid new : Sets} {w v next : Walk} (line : List Token) (d : Directive) → Some d ≡ directive_at standard names line
     → is_barrier d ≡ true → is_said d ≡ false → conditional_in (Some d) ≡ None → Extends names more → All (IsHeld names) line → Keeps old mid
-    → SimulatesOneOf files names old w more mid v (λ config m n. Closed m n) → SimulatesStep more mid v new next (λ paths config m. plain_by m (seen_line standard more paths line) (Some d))
+    → SimulatesOneOf files names old w more mid v (λ config m n. Closed m n) → StepsBetweenRuns more mid v new next (λ paths config m. plain_by m (seen_line standard more paths line) (Some d))
     → (x : Context) → SimulatesOneOf files names old w more new next (λ config m n. Takes x m (seen_line standard names files line) n)
 takes-closed standard {names} {more} files {new = new} {next = next} line d at barrier unsaid none grows held keeps closing moved x = record {
   owns = moved.owns;
@@ -114,7 +115,7 @@ takes-closed standard {names} {more} files {new = new} {next = next} line d at b
         machine = step a.machine l (Ok false);
         done = subst (λ k. Takes x m l (step k l (Ok false))) (sym a.done.is) (closes d a.done.answer (directive-is standard names files line (Some d) at) barrier unsaid a.done.expands);
         simulates = subst (Simulates new more files next config) (ap (λ k. plain_by a.machine k (Some d)) (line-grown files grows standard line held) ∙ plain-is standard names files line a.machine (Ok false) (Some d) at none)
-            (moved.at files config a.machine (IsConfig-Keeps keeps listed) closing.table a.simulates);
+            (moved.at files config a.machine (IsConfig-Keeps keeps listed) closing.table a.simulates (subst IsBetweenRuns (sym a.done.is) (closing-between m a.done.answer)));
       };
 }
 

@@ -25,11 +25,12 @@ use Rattle.sc_prep.proofs.InFile.{top-is-in}
 use Rattle.sc_prep.proofs.LeadMoves.{contents-stay, leads-one}
 use Rattle.sc_prep.proofs.LineSteps.{directive-now, line-of_file, lines-all, lines-long}
 use Rattle.sc_prep.proofs.Passing.{next-passed, one-more}
-use Rattle.sc_prep.proofs.PlainRuns.{each-closes-plain, in-more, placed-plain, runs-plain, seen-plain}
+use Rattle.sc_prep.proofs.PlainRuns.{each-any, in-more, placed-plain, runs-plain, seen-plain}
 use Rattle.sc_prep.specs.Contents.{Agrees, AreContents, AreHeldLines, KeepsContents}
 use Rattle.sc_prep.specs.Machine.{Machine, Runs, Takes}
 use Rattle.sc_prep.specs.Passes.{EndsAt}
-use Rattle.sc_prep.specs.Printable.{AllPass, ArePlainPaths, ClosesPlain, IsPlaced, IsPlainToken, is_plain}
+use Rattle.sc_prep.specs.Printable.{AllPass, ArePlainPaths, IsPlaced, IsPlainToken, is_plain}
+use Rattle.sc_prep.specs.Footprints.{any_machine}
 use Rattle.sc_prep.specs.Simulates.{Closed, Covers, IsAtTop, IsContext, IsIn, Leads, PlainEach, SimulatesOneOf}
 use Rattle.sc_prep.specs.declared.content.Contents.{Contents}
 use Rattle.sc_prep.specs.declared.content.FileLines.{FileLines}
@@ -125,12 +126,12 @@ module _ {space : Space} {a b : Sets} {names files mid mid_files : List (List �
 
   -- ---- the end of the file
   pub gone-over : {c : Sets} {more : List (List ℕ)} {w : Walk} → length lines.lines.items ≤ number → Keeps b c → Extends mid more → SimulatesOneOf mid_files mid b v more c w (λ config m n. Closed m n)
-      → (ClosesPlain b mid mid_files v → AllPass (is_plain mid) v.prepared.list → AllPass (is_plain more) w.prepared.list)
+      → (PlainEach b mid mid_files v any_machine → AllPass (is_plain mid) v.prepared.list → AllPass (is_plain more) w.prepared.list)
       → Gone space a names files u one c more mid_files w two (Unit {0}) (IsAtTop files entry) (λ x config m n. Covers x file_seen m n)
   gone-over past keeps names_grow closes plain =
       gone-then {between = λ m. Unit {0}} {later = λ x config m n. Closed m n} gone held keeps names_grow (Extends-refl mid_files) (contents-stay two)
       (λ x context agreed. leads-one (λ m. Unit {0}) closes)
-      (λ g x context agreed sound mid_paths each list. plain (each-closes-plain each) list)
+      (λ g x context agreed sound mid_paths each list. plain (each-any each) list)
       (λ g x context agreed sound mid_paths each. mid_paths)
       (λ x config m n from ran. tt)
       (λ g x context sound paths config m n ran from state. runs-plain (directories-plain context sound) ran state (every-take (λ (l : Line). Every IsPlainToken l.tokens) number file_seen (all-plain paths)))

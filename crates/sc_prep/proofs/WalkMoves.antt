@@ -1,5 +1,6 @@
 -- What one move of the walk of all configurations does at each of them.
 use Rattle.std.proofs.Common.{◌≡◌, ℕ, ◌&&◌, not, Bool, true, false, List, [], ◌∷◌, ◌++◌, map, reverse, Option, Some, None, Vec, Global, append-nil, refl, sym, ap, ◌∙◌, subst}
+use Rattle.std.proofs.lemmas.Bool.{and_parts}
 use Rattle.std.proofs.lemmas.List.{reverse-append, map-append}
 use Rattle.std.proofs.lemmas.List.Elements.{All-head, All-tail, All-push, All-pop, All-append, All-map, All-weaker}
 use Rattle.std.specs.Option.{option_to_list}
@@ -13,9 +14,9 @@ use Rattle.sc_base.specs.declared.fault.Fault as base
 use Rattle.sc_base.specs.declared.id.Cond.{Cond}
 use Rattle.sc_prep.specs.declared.walk.Section.{Section}
 use Rattle.sc_prep.specs.declared.walk.Walk.{Walk}
-use Rattle.sc_prep.specs.Machine.{Machine, acts, acting, opened, next_branch, ended, turned, refusing, refusing_if, refusal, acting_unless, changing, defined_as, defined_over, plain_by, refusal_of}
+use Rattle.sc_prep.specs.Machine.{Machine, acts, acting, opened, next_branch, ended, turned, refusing, refusing_if, refusal, acting_unless, changed_by, changing, defined_as, defined_over, ends_run, plain_by, refusal_of}
 use Rattle.sc_prep.specs.Closes.{RefusesEach, has_none}
-use Rattle.sc_prep.specs.Simulates.{section_at, Simulates, OwnsSection, Owns, SimulatesStep}
+use Rattle.sc_prep.specs.Simulates.{section_at, Simulates, OwnsSection, Owns, SimulatesStep, StepsBetweenRuns}
 use Rattle.sc_lines.specs.Nests.{seen_line}
 use Rattle.std.specs.Map.{update}
 use Rattle.sc_model.specs.declared.cause.Cause.TheVariants.{BadDirective, ErrorDirective, Redefined, ProtectedName}
@@ -38,6 +39,7 @@ use Rattle.sc_model.specs.declared.standard.Standard.{Standard}
 use Rattle.sc_prep.proofs.Machine.{inert_acting, inert_changing}
 use Rattle.sc_prep.proofs.OnceLemmas.{once-kept, once-stays}
 use Rattle.sc_prep.proofs.RunLemmas.{denotes-as, is_empty-one}
+use Rattle.sc_prep.proofs.SettledText.{text-as, text-changed, text-more}
 
 map-reverse : {A B : Type 0} (f : A → B) (xs : List A) → map f (reverse xs) ≡ reverse (map f xs)
 map-reverse f [] = refl
@@ -89,10 +91,10 @@ module _ {old new : Sets} (keeps : Keeps old new) where
     sections = sections-kept config listed w.sections.items owns.sections ∙ simulates.sections;
     prepared = record {
       live = keeps.at w.prepared.live.0 config owns.prepared.live listed ∙ simulates.prepared.live;
-      output = λ none. ap (map (seen names files)) (items_at-Keeps w.prepared.list config keeps owns.prepared.list listed) ∙ simulates.prepared.output none;
       fault = ap (map (seen_fault files)) (faults_at-Keeps w.prepared.faults.items config keeps owns.prepared.faults listed) ∙ simulates.prepared.fault;
     };
-    run = λ none. ap (map (seen names files)) (items_at-Keeps w.gathered config keeps owns.gathered listed) ∙ simulates.run none;
+    text = λ none. text-as (ap (map (seen names files)) (items_at-Keeps w.gathered config keeps owns.gathered listed)) (ap (map (seen names files)) (items_at-Keeps w.prepared.list config keeps owns.prepared.list listed))
+        (simulates.text none);
     macros = λ none name. macros_at-Keeps keeps is config name listed ∙ simulates.macros none name;
     once = λ none name. once-stays keeps files w.once.items config name listed owns.once ∙ simulates.once none name;
   }
@@ -129,8 +131,8 @@ begins names {old} {new} keeps w owns t group untaken acting sections items dg d
                 ∙ (ap (λ ss. (new.has w.group.0 config, new.has untaken.0 config) ∷ ss) same.sections
                 ∙ (ap (λ b. (b, new.has untaken.0 config) ∷ m.sections) same.active
                 ∙ ap (λ b. (m.active, b) ∷ m.sections) (du.at config now ∙ ap (λ b. b && not (t config)) simulates.active))));
-            prepared = record { live = same.prepared.live; output = same.prepared.output; fault = same.prepared.fault };
-            run = same.run;
+            prepared = record { live = same.prepared.live; fault = same.prepared.fault };
+            text = same.text;
             macros = same.macros;
             once = same.once;
           };
@@ -168,8 +170,8 @@ module _ {old new : Sets} (keeps : Keeps old new) (w : Walk) (owns : Owns old w)
               active = dg.at config (IsConfig-Keeps keeps listed);
               acting = dl.at config (IsConfig-Keeps keeps listed) ∙ ap (λ b. g config && b) simulates.prepared.live;
               sections = refl;
-              prepared = record { live = same.prepared.live; output = same.prepared.output; fault = same.prepared.fault };
-              run = same.run;
+              prepared = record { live = same.prepared.live; fault = same.prepared.fault };
+              text = same.text;
               macros = same.macros;
               once = same.once;
             });
@@ -290,7 +292,6 @@ refuses standard names {old} {new} keeps w owns part t cause token tokens next d
             prepared = record {
               live = dl.at config now ∙ (ap (λ b. b && not (t config && old.has w.acting.0 config)) simulates.prepared.live
                   ∙ (ap (λ b. is_none m.fault && not (t config && b)) simulates.acting ∙ live_after (t config) m.active m.fault x));
-              output = λ fault_none. same.prepared.output (none_before (t config && acts m) m.fault x fault_none);
               fault =
                   ap (λ fs. map (seen_fault files) (faults_at new fs config)) refused.faults
                   ∙ (ap (map (seen_fault files)) (faults_at-append new w.prepared.faults.items (own ∷ []) config)
@@ -299,7 +300,7 @@ refuses standard names {old} {new} keeps w owns part t cause token tokens next d
                   ∙ (ap (λ fs. option_to_list m.fault ++ fs) (map-one (seen_fault files) (new.has part.0 config) own ∙ ap (λ b. if b then seen_fault files own ∷ [] else []) at_part)
                   ∙ fault_after (t config && acts m) m.fault x (acts_none (t config) m.active m.fault)))));
             };
-            run = λ fault_none. same.run (none_before (t config && acts m) m.fault x fault_none);
+            text = λ fault_none. same.text (none_before (t config && acts m) m.fault x fault_none);
             macros = λ fault_none. same.macros (none_before (t config && acts m) m.fault x fault_none);
             once = λ fault_none. same.once (none_before (t config && acts m) m.fault x fault_none);
           };
@@ -324,14 +325,6 @@ refuses-none standard names s w owns part t cause dp never line = record {
 chosen_end : {A B : Type 0} (f : A → B) (b : Bool) (xs ys : List A) → map f (xs ++ (if b then ys else [])) ≡ (if b then map f xs ++ map f ys else map f xs)
 chosen_end f true xs ys = map-append f xs ys
 chosen_end f false xs ys = ap (map f) (append-nil xs)
-
-text_after : (b : Bool) (s : State) (l : Line) → (if b then s.run ++ l.tokens else s.run) ≡ (if b then with_text s l else s).run
-text_after true s l = refl
-text_after false s l = refl
-
-text_output : (b : Bool) (s : State) (l : Line) → s.output ≡ (if b then with_text s l else s).output
-text_output true s l = refl
-text_output false s l = refl
 
 text_macros : (b : Bool) (s : State) (l : Line) → (if b then with_text s l else s).macros ≡ s.macros
 text_macros true s l = refl
@@ -359,17 +352,12 @@ puts standard names s w owns tokens list items =
         active = simulates.active;
         acting = simulates.acting;
         sections = simulates.sections;
-        prepared = record {
-          live = simulates.prepared.live;
-          output = λ none. simulates.prepared.output none ∙ text_output (acts m) m.state (seen_line standard names files tokens);
-          fault = simulates.prepared.fault;
-        };
-        run = λ none.
-            ap (λ xs. map (seen names files) (items_at s xs config)) items
+        prepared = record { live = simulates.prepared.live; fault = simulates.prepared.fault };
+        text = λ none. text-as
+            (ap (λ xs. map (seen names files) (items_at s xs config)) items
             ∙ (ap (map (seen names files)) (items_at-append s w.gathered (under w.acting tokens) config ∙ ap (λ xs. items_at s w.gathered config ++ xs) (items_at-under s w.acting tokens config ∙ ap (λ b. if b then tokens else []) simulates.acting))
-            ∙ (chosen_end (seen names files) (acts m) (items_at s w.gathered config) tokens
-            ∙ (ap (λ xs. if acts m then xs ++ map (seen names files) tokens else xs) (simulates.run none)
-            ∙ text_after (acts m) m.state (seen_line standard names files tokens))));
+            ∙ chosen_end (seen names files) (acts m) (items_at s w.gathered config) tokens)) refl
+            (text-more (acts m) m.state (seen_line standard names files tokens) (map (seen names files) (items_at s w.gathered config)) (map (seen names files) (items_at s w.prepared.list config)) (simulates.text none));
         macros = λ none name. simulates.macros none name ∙ sym (ap (λ f. f name) (text_macros (acts m) m.state (seen_line standard names files tokens)));
         once = λ none name. simulates.once none name ∙ text_once (acts m) m.state (seen_line standard names files tokens) name;
       };
@@ -410,14 +398,6 @@ ignores names s w owns = record {
 
 -- ---- the macros change
 
-changed_output : (b : Bool) (s : State) (macros : Macros) → s.output ≡ (if b then with_macros s macros else s).output
-changed_output true s macros = refl
-changed_output false s macros = refl
-
-changed_run : (b : Bool) (s : State) (macros : Macros) → s.run ≡ (if b then with_macros s macros else s).run
-changed_run true s macros = refl
-changed_run false s macros = refl
-
 changed_macros : (b : Bool) (s : State) (macros : Macros) (name : List ℕ) → (if b then macros name else s.macros name) ≡ (if b then with_macros s macros else s).macros name
 changed_macros true s macros name = refl
 changed_macros false s macros name = refl
@@ -432,25 +412,22 @@ pub changes-macros : (names : List (List ℕ)) {old new : Sets} (keeps : Keeps o
     → IsTable new names table
     → ((config : List ℕ) → IsConfig old.arities config → (macros : Macros) → ((name : List ℕ) → macros_at old names w.table config name ≡ macros name)
     → (name : List ℕ) → macros_at new names table config name ≡ (if not (t config) && old.has w.acting.0 config then becomes macros name else macros name))
-    → SimulatesStep names old w new (record w { table = table }) (λ files config m. acting_unless (t config) m (λ s. with_macros s (becomes s.macros)))
+    → StepsBetweenRuns names old w new (record w { table = table }) (λ files config m. acting_unless (t config) m (λ s. with_macros s (becomes s.macros)))
 changes-macros names {old} {new} keeps w owns table t becomes is_table changed =
     let kept = owns-kept keeps w owns in
     record {
       owns = record { group = kept.group; acting = kept.acting; sections = kept.sections; gathered = kept.gathered; once = kept.once; prepared = kept.prepared };
       table = λ _. is_table;
-      at = λ files config m listed is simulates.
+      at = λ files config m listed is simulates between.
           let same = simulates-kept keeps w owns names files config m listed is simulates in
           let next = becomes m.state.macros in
           record {
             active = same.active;
             acting = same.acting;
             sections = same.sections;
-            prepared = record {
-              live = same.prepared.live;
-              output = λ none. same.prepared.output none ∙ changed_output (not (t config) && acts m) m.state next;
-              fault = same.prepared.fault;
-            };
-            run = λ none. same.run none ∙ changed_run (not (t config) && acts m) m.state next;
+            prepared = record { live = same.prepared.live; fault = same.prepared.fault };
+            text = λ none. text-changed (not (t config) && acts m) m.state next (map (seen names files) (items_at new w.gathered config)) (map (seen names files) (items_at new w.prepared.list config))
+                (λ on. between (and_parts (not (t config)) (acts m) on).1) (same.text none);
             macros = λ none name. changed config listed m.state.macros (simulates.macros none) name
                 ∙ (ap (λ b. if not (t config) && b then next name else m.state.macros name) simulates.acting ∙ changed_macros (not (t config) && acts m) m.state next name);
             once = λ none name. same.once none name ∙ changed_once (not (t config) && acts m) m.state next name;
@@ -471,7 +448,7 @@ same-macros names {old} {new} keeps w owns table is_table still =
       table = λ _. is_table;
       at = λ files config m listed is simulates.
           let same = simulates-kept keeps w owns names files config m listed is simulates in
-          record { active = same.active; acting = same.acting; sections = same.sections; prepared = same.prepared; run = same.run; macros = λ none name. still config name listed ∙ simulates.macros none name; once = same.once };
+          record { active = same.active; acting = same.acting; sections = same.sections; prepared = same.prepared; text = same.text; macros = λ none name. still config name listed ∙ simulates.macros none name; once = same.once };
     }
 
 -- what a table says stays as the store grows further
@@ -583,6 +560,31 @@ step-then f g keeps a b = record {
   at = λ files config m listed is simulates. b.at files config (f files config m) (IsConfig-Keeps keeps listed) (a.table is) (a.at files config m listed is simulates);
 }
 
+-- a move of machines whose runs were closed, and then another
+pub between-then : {names : List (List ℕ)} {r s t : Sets} {u v w : Walk} (f g : List (List ℕ) → List ℕ → Machine → Machine) → Keeps r s
+    → StepsBetweenRuns names r u s v f → SimulatesStep names s v t w g → StepsBetweenRuns names r u t w (λ files config m. g files config (f files config m))
+between-then f g keeps a b = record {
+  owns = b.owns;
+  table = λ is. b.table (a.table is);
+  at = λ files config m listed is simulates between.
+      b.at files config (f files config m) (IsConfig-Keeps keeps listed) (a.table is) (a.at files config m listed is simulates between);
+}
+
+-- a move of each machine is one of those whose runs were closed
+pub between-runs : {names : List (List ℕ)} {r s : Sets} {u v : Walk} {f : List (List ℕ) → List ℕ → Machine → Machine} → SimulatesStep names r u s v f → StepsBetweenRuns names r u s v f
+between-runs a = record { owns = a.owns; table = a.table; at = λ files config m listed is simulates between. a.at files config m listed is simulates }
+
+-- one such move as another
+pub between-as : {names : List (List ℕ)} {r s : Sets} {u v : Walk} (f g : List (List ℕ) → List ℕ → Machine → Machine)
+    → ((files : List (List ℕ)) (config : List ℕ) (m : Machine) → IsConfig r.arities config → Simulates r names files u config m → f files config m ≡ g files config m)
+    → StepsBetweenRuns names r u s v f → StepsBetweenRuns names r u s v g
+between-as {names} {s = s} {v = v} f g same a = record {
+  owns = a.owns;
+  table = a.table;
+  at = λ files config m listed is simulates between.
+      subst (Simulates s names files v config) (same files config m listed simulates) (a.at files config m listed is simulates between);
+}
+
 -- one move as another
 pub step-as : {names : List (List ℕ)} {r s : Sets} {u v : Walk} (f g : List (List ℕ) → List ℕ → Machine → Machine)
     → ((files : List (List ℕ)) (config : List ℕ) (m : Machine) → IsConfig r.arities config → Simulates r names files u config m → f files config m ≡ g files config m)
@@ -592,6 +594,16 @@ step-as {names} {s = s} {v = v} f g same a = record {
   table = a.table;
   at = λ files config m listed is simulates. subst (Simulates s names files v config) (same files config m listed simulates) (a.at files config m listed is simulates);
 }
+
+-- a directive that ends no runs has no effect
+pub mild-stays : (standard : Standard) (names : List (List ℕ)) (s : Sets) (w : Walk) → Owns s w → (line : List Token) (o : Option Directive) (d : Directive) → o ≡ Some d → ends_run o ≡ false
+    → SimulatesStep names s w s w (λ files config m. plain_by m (seen_line standard names files line) o)
+mild-stays standard names s w owns line o d is mild =
+    step-as (λ files config m. m) (λ files config m. plain_by m (seen_line standard names files line) o)
+    (λ files config m _ _.
+    ap (λ b. if b then changing m (seen_line standard names files line) d (changed_by m.state.macros (seen_line standard names files line) d) else m) (sym (sym (ap ends_run is) ∙ mild))
+    ∙ ap (plain_by m (seen_line standard names files line)) (sym is))
+    (stays names s w owns)
 
 -- a move that follows other changes of the store
 pub step-kept : {names : List (List ℕ)} {r s t : Sets} {w v : Walk} {f : List (List ℕ) → List ℕ → Machine → Machine} → Keeps r s → Owns r w
@@ -620,16 +632,16 @@ module _ (standard : Standard) (names : List (List ℕ)) {old mid new : Sets} (k
       → ((c text : List ℕ) → IsConfig old.arities c → macros_at mid names table c text
       ≡ (if old.has w.acting.0 c && not (mid.has refused.0 c) then update same_bytes (macros_at old names w.table c) d.name (Some d.definition) text else macros_at old names w.table c text))
       → Refuses standard mid new w table refused next line Redefined
-      → SimulatesStep names old w new next (λ files config m. changing m (seen_line standard names files line) directive.Define (defined_as m.state.macros (Ok d)))
+      → StepsBetweenRuns names old w new next (λ files config m. changing m (seen_line standard names files line) directive.Define (defined_as m.state.macros (Ok d)))
   defines d own is changed refuse =
       let t : List ℕ → Bool = mid.has refused.0 in
       let step : State → State = λ s. with_macros s (with_macro s.macros d) in
-      step-as (λ files config m. refusing_if (t config) (acting_unless (t config) m step) (seen_line standard names files line) Redefined)
+      between-as (λ files config m. refusing_if (t config) (acting_unless (t config) m step) (seen_line standard names files line) Redefined)
       (λ files config m. changing m (seen_line standard names files line) directive.Define (defined_as m.state.macros (Ok d)))
       (λ files config m listed simulates.
       defines-as m (seen_line standard names files line) (macros_at old names w.table config) d (t config) (λ clean. simulates.macros clean d.name)
       (subst (λ b. (t config ≡ true) ↔ ((b ≡ true) × IsOther d.definition (macros_at old names w.table config d.name))) simulates.acting (is config listed)))
-      (step-then (λ files config m. acting_unless (t config) m step) (λ files config m. refusing_if (t config) m (seen_line standard names files line) Redefined) keeps
+      (between-then (λ files config m. acting_unless (t config) m step) (λ files config m. refusing_if (t config) m (seen_line standard names files line) Redefined) keeps
       (changes-macros names keeps w owns table t (λ macros. with_macro macros d) is_table
       (λ config listed macros same name. changed config name listed
       ∙ chosen-as (old.has w.acting.0 config) (t config) (updated-as (macros_at old names w.table config) macros d.name (Some d.definition) name (same name)) (same name)))
@@ -644,14 +656,14 @@ module _ (standard : Standard) (names : List (List ℕ)) {old mid new : Sets} (k
       → ((c text : List ℕ) → IsConfig old.arities c → macros_at mid names table c text
       ≡ (if old.has w.acting.0 c && not (is_protected name) then update same_bytes (macros_at old names w.table c) name None text else macros_at old names w.table c text))
       → Refuses standard mid new w table refused next line ProtectedName
-      → SimulatesStep names old w new next (λ files config m. changing m (seen_line standard names files line) directive.Undef (undefined m.state.macros (Some name)))
+      → StepsBetweenRuns names old w new next (λ files config m. changing m (seen_line standard names files line) directive.Undef (undefined m.state.macros (Some name)))
   undefines name denotes changed refuse =
       let t : Bool = is_protected name in
       let step : State → State = λ s. with_macros s (without_macro s.macros name) in
-      step-as (λ files config m. refusing_if t (acting_unless t m step) (seen_line standard names files line) ProtectedName)
+      between-as (λ files config m. refusing_if t (acting_unless t m step) (seen_line standard names files line) ProtectedName)
       (λ files config m. changing m (seen_line standard names files line) directive.Undef (undefined m.state.macros (Some name)))
       (λ files config m listed simulates. undefines-as m (seen_line standard names files line) name t)
-      (step-then (λ files config m. acting_unless t m step) (λ files config m. refusing_if t m (seen_line standard names files line) ProtectedName) keeps
+      (between-then (λ files config m. acting_unless t m step) (λ files config m. refusing_if t m (seen_line standard names files line) ProtectedName) keeps
       (changes-macros names keeps w owns table (λ _. t) (λ macros. without_macro macros name) is_table
       (λ config listed macros same text. changed config text listed
       ∙ chosen-as (old.has w.acting.0 config) t (updated-as (macros_at old names w.table config) macros name None text (same text)) (same text)))

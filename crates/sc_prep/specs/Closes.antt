@@ -19,7 +19,7 @@ pub record IsWithin (old : Sets) (items : List (Cond × Token)) (test : List ℕ
   pub placed : (names : List (List ℕ)) (files : ℕ) → ArePlaced names files items → ArePlaced names files kept
   pub apart : (rest : List Token) → StandApart (tokens_in items ++ rest) → StandApart (tokens_in kept ++ rest)
 
-abbrev pub is_empty : List Fault → Bool
+abbrev pub is_empty : {A : Type 0} → List A → Bool
 is_empty [] = true
 is_empty (f ∷ fs) = false
 

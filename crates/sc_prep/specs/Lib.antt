@@ -6,6 +6,7 @@ pub mod Entering
 pub mod Expressions
 pub mod Finding
 pub mod Footprints
+pub mod Gathered
 pub mod Includes
 pub mod Machine
 pub mod Naming
@@ -13,5 +14,6 @@ pub mod Once
 pub mod Passes
 pub mod Preprocesses
 pub mod Printable
+pub mod Settles
 pub mod Simulates
 pub mod Stages

@@ -61,9 +61,9 @@ abbrev pub StaysHeld : List (List ℕ) → List Token → Walk → Walk → Type
 StaysHeld names line old new = (files : ℕ) (test : Token → Bool) → All (IsPlaced names files) line
     → IsHeldWalk names files test old → IsHeldWalk names files test new
 
--- what the runs expand to that a barrier closes here has each token spelled on one line
+-- what the text expands to that was gathered has each token spelled on one line
 abbrev pub ClosesPlain : Sets → List (List ℕ) → List (List ℕ) → Walk → Type 0
-ClosesPlain s names files w = (config : List ℕ) → IsConfig s.arities config → s.has w.acting.0 config ≡ true
+ClosesPlain s names files w = (config : List ℕ) → IsConfig s.arities config → s.has w.prepared.live.0 config ≡ true
     → (output : List model.Token) → TextExpands (macros_at s names w.table config) (map (seen names files) (items_at s w.gathered config)) (Ok output)
     → All (λ t. has_no_newline t.spelling ≡ true) output
 

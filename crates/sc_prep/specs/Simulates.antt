@@ -16,6 +16,7 @@ use Rattle.sc_model.specs.declared.standard.Standard.{Standard}
 use Rattle.sc_model.specs.Outside.{Files}
 use Rattle.sc_model.specs.Space.{Space}
 use Rattle.sc_prep.specs.Contents.{AreContents}
+use Rattle.sc_prep.specs.Gathered.{HasText}
 use Rattle.sc_prep.specs.declared.content.Contents.{Contents}
 use Rattle.sc_prep.specs.Printable.{IsHeldWalk, IsPlainState, any_token}
 use Rattle.sc_prep.specs.declared.entry.Entry.{Entry}
@@ -27,11 +28,9 @@ use Rattle.sc_model.specs.Token.{Token}
 abbrev pub section_at : Sets → List ℕ → Section → Bool × Bool
 section_at s config section = (s.has section.around.0 config, s.has section.untaken.0 config)
 
--- At this configuration the lists have what the machine put out, or its fault. The tokens of a
--- configuration with a fault don't count.
-pub record IsOutcomeOf (s : Sets) (names files : List (List ℕ)) (p : Prepared) (config : List ℕ) (m : Machine) : Type 0 where
+-- At this configuration the walk has the fault of the machine, and else is live.
+pub record IsOutcomeOf (s : Sets) (files : List (List ℕ)) (p : Prepared) (config : List ℕ) (m : Machine) : Type 0 where
   pub live : s.has p.live.0 config ≡ is_none m.fault
-  pub output : m.fault ≡ None → map (seen names files) (items_at s p.list config) ≡ m.state.output
   pub fault : map (seen_fault files) (faults_at s p.faults.items config) ≡ option_to_list m.fault
 
 -- a state before the first line, whose macros are those of the table at this configuration
@@ -41,13 +40,15 @@ pub record IsBegun (s : Sets) (names : List (List ℕ)) (table : MacroTable) (co
   pub run : first.run ≡ []
   pub once : first.once ≡ []
 
--- At this configuration the walk is where the machine is.
+-- At this configuration the walk is where the machine is. The tokens of a configuration with a
+-- fault don't count.
 pub record Simulates (s : Sets) (names files : List (List ℕ)) (walk : Walk) (config : List ℕ) (m : Machine) : Type 0 where
   pub active : s.has walk.group.0 config ≡ m.active
   pub acting : s.has walk.acting.0 config ≡ acts m
   pub sections : map (section_at s config) (reverse walk.sections.items) ≡ m.sections
-  pub prepared : IsOutcomeOf s names files walk.prepared config m
-  pub run : m.fault ≡ None → map (seen names files) (items_at s walk.gathered config) ≡ m.state.run
+  pub prepared : IsOutcomeOf s files walk.prepared config m
+  pub text : m.fault ≡ None
+      → HasText m.state (map (seen names files) (items_at s walk.gathered config)) (map (seen names files) (items_at s walk.prepared.list config))
   pub macros : m.fault ≡ None → (name : List ℕ) → macros_at s names walk.table config name ≡ m.state.macros name
   pub once : m.fault ≡ None → (name : List ℕ) → once_at s files walk.once.items config name ≡ is_once_file m.state name
 
@@ -72,6 +73,18 @@ pub record SimulatesStep (names : List (List ℕ)) (old : Sets) (walk : Walk) (n
   pub table : IsTable old names walk.table → IsTable new names next.table
   pub at : (files : List (List ℕ)) (config : List ℕ) (m : Machine) → IsConfig old.arities config → IsTable old names walk.table
       → Simulates old names files walk config m → Simulates new names files next config (does files config m)
+
+-- where the machine does something, its run was closed
+abbrev pub IsBetweenRuns : Machine → Type 0
+IsBetweenRuns m = acts m ≡ true → m.state.run ≡ []
+
+-- The same, where the run of each machine that does something was closed.
+pub record StepsBetweenRuns (names : List (List ℕ)) (old : Sets) (walk : Walk) (new : Sets) (next : Walk)
+    (does : List (List ℕ) → List ℕ → Machine → Machine) : Type 0 where
+  pub owns : Owns new next
+  pub table : IsTable old names walk.table → IsTable new names next.table
+  pub at : (files : List (List ℕ)) (config : List ℕ) (m : Machine) → IsConfig old.arities config → IsTable old names walk.table
+      → Simulates old names files walk config m → IsBetweenRuns m → Simulates new names files next config (does files config m)
 
 -- a machine of which this holds, and the walk is where it is
 pub record Arrives (s : Sets) (names files : List (List ℕ)) (walk : Walk) (config : List ℕ) (holds : Machine → Type 0) : Type 0 where
@@ -119,10 +132,6 @@ IsIn files entry m = acts m ≡ true → IsInside files entry m.state
 pub data IsAtTop (files : List (List ℕ)) (entry : Entry) (m : Machine) : Type 0 where
   begins : (first : State) → m ≡ start first → IsInside files entry first → IsAtTop files entry m
   idles : m.active ≡ false → m.sections ≡ [] → IsAtTop files entry m
-
--- where the machine does something, its run was closed
-abbrev pub IsBetweenRuns : Machine → Type 0
-IsBetweenRuns m = acts m ≡ true → m.state.run ≡ []
 
 -- From one walk to the next, at each configuration whose machine is as this says, the machine does
 -- one of these. The tables of names of files and of texts may have grown.

@@ -27,8 +27,8 @@ use Rattle.sc_prep.specs.Footprints.{Comes, HaveLists, StopsWalk, any_machine}
 use Rattle.sc_prep.specs.Machine.{Machine, SaysAt, acts}
 use Rattle.sc_prep.specs.declared.naming.Named.{Named}
 use Rattle.sc_prep.specs.Naming.{NamesAt, headers_in}
-use Rattle.sc_prep.specs.Printable.{AllPass, ArePlaced, ClosesPlain, IsHeldWalk, IsPlaced, any_token, is_plain}
-use Rattle.sc_prep.specs.Simulates.{Owns, SimulatesOneOf}
+use Rattle.sc_prep.specs.Printable.{AllPass, ArePlaced, IsHeldWalk, IsPlaced, any_token, is_plain}
+use Rattle.sc_prep.specs.Simulates.{Owns, PlainEach, SimulatesOneOf}
 use Rattle.sc_table.specs.Table.{IsTable, macros_at}
 
 -- the conditions of the walk are the store's, and the tables hold the rest
@@ -54,7 +54,7 @@ pub record LineStage (files names : List (List ℕ)) (old : Sets) (walk : Walk) 
     (does : List ℕ → Machine → Machine → Type 0) : Type 0 where
   pub simulates : SimulatesOneOf files names old walk more new next does
   pub held : IsHeldWalk more (length files) any_token next
-  pub plain : ClosesPlain old names files walk → AllPass (is_plain names) walk.prepared.list → AllPass (is_plain more) next.prepared.list
+  pub plain : PlainEach old names files walk any_machine → AllPass (is_plain names) walk.prepared.list → AllPass (is_plain more) next.prepared.list
   pub gathers : GathersFrom line walk next
 
 -- More configurations than the limit have something each at one place of these tokens, no two the

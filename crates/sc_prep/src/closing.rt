@@ -44,6 +44,30 @@ impl Walk {
         if self.gathered.len() == 0 {
             return Ok(());
         }
+        self.settle_runs(alloc, conds, names, files, limit)?;
+        self.close_gathered(alloc, conds, names, files, limit)
+    }
+
+    /// What was gathered is put out as what it expands to, in the configurations that act.
+    #[tactic(auto, using(sc_model::proofs::SetLemmas::conditions))]
+    fn close_gathered<C: Conditions>(
+        &mut self,
+        alloc: Global,
+        conds: &mut C,
+        names: &mut Names,
+        files: &Files,
+        limit: usize,
+    ) -> Result<(), Stop>
+        requires stored { IsStored (C.sets conds.old) names.old (length files.now) self.old }
+        ensures closes { OnOk result (LineStage files.now names.old (C.sets conds.old) self.old [] names.new (C.sets conds.new) self.new
+            (λ config m n. Closed m n)) }
+        ensures stops { IfErr result (StopsStage (C.sets conds.old) names.old files.now self.old (tokens_in self.old.gathered)
+            (λ config m f. (acts m ≡ true) × NameHas m.state.macros m.state.run f) limit) }
+
+        // at every outcome
+        ensures keeps { Keeps (C.sets conds.old) (C.sets conds.new) }
+        ensures names { Extends names.old names.new }
+    {
         let expanded = expand(
             alloc,
             conds,
@@ -133,7 +157,7 @@ impl Walk {
 
 /// The items that a configuration of `by` has, each in those configurations.
 #[tactic(auto, using(sc_model::proofs::SetLemmas::conditions))]
-fn within<C: Conditions>(
+pub fn within<C: Conditions>(
     alloc: Global,
     conds: &mut C,
     items: &Guarded<Token>,
@@ -181,7 +205,7 @@ fn put_within<C: Conditions>(
 }
 
 /// Puts the items of a list at the end of another.
-fn append(list: &mut Guarded<Token>, items: &Guarded<Token>) -> Result<(), OutOfMemory>
+pub fn append(list: &mut Guarded<Token>, items: &Guarded<Token>) -> Result<(), OutOfMemory>
     ensures { OnOk result (list.new ≡ list.old ++ items.now) }
 {
     for index in 0..items.len() {

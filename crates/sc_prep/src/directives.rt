@@ -18,7 +18,7 @@ ghost use Rattle.sc_prep.specs.Apart.{GathersFrom, tokens_in};
 ghost use Rattle.sc_prep.specs.Footprints.{ComesAt};
 ghost use Rattle.sc_prep.specs.Machine as machine;
 ghost use Rattle.sc_prep.specs.Machine.{Decided, Takes, acts, changed_by, changing, defined_as, ends_run, plain_by};
-ghost use Rattle.sc_prep.specs.Simulates.{Owns, SimulatesStep};
+ghost use Rattle.sc_prep.specs.Simulates.{Owns, SimulatesStep, StepsBetweenRuns};
 ghost use Rattle.sc_lines.specs.Nests.{seen_line};
 ghost use Rattle.sc_prep.specs.Printable.{IsPlaced, StaysHeld};
 ghost use Rattle.sc_prep.specs.Stages.{IsStored, LineStage, Stage, StopsStage};
@@ -26,7 +26,7 @@ ghost use Rattle.sc_table.specs.Table.{IsTable, IsStill, macros_at};
 
 use crate::walk::Walk;
 use c11_directives::{Conditional, Directive};
-use sc_base::{Cause, Cond, Files, Kind, Name, Names, Stop, Token};
+use sc_base::{Cause, Cond, Files, Kind, Name, Names, OutOfMemory, Stop, Token};
 use sc_lines::Line;
 use sc_macro::{DefineStop, Definition, read_define};
 use sc_model::Standard;
@@ -113,7 +113,7 @@ impl Walk {
             Some(barrier) => {
                 self.barrier_line(alloc, conds, names, files, limit, standard, line, barrier)
             }
-            None => self.plain_line(alloc, conds, names, standard, line, directive),
+            None => Ok(self.text_line(conds, line, directive)?),
         }
     }
 
@@ -146,7 +146,7 @@ impl Walk {
         self.close_runs(alloc, conds, names, files, limit)?;
         match directive {
             Directive::Line => self.number_line(alloc, conds, names, files, limit, line),
-            _ => self.plain_line(alloc, conds, names, standard, line, Some(directive)),
+            _ => self.plain_directive(alloc, conds, names, standard, line, directive),
         }
     }
 
@@ -190,34 +190,53 @@ impl Walk {
         }
     }
 
-    /// A line that is no conditional directive.
+    /// A line that ends no runs. Text is gathered.
+    fn text_line<C: Conditions>(
+        &mut self,
+        conds: &C,
+        line: &[Token],
+        directive: Option<Directive>,
+    ) -> Result<(), OutOfMemory>
+        requires owns { Owns (C.sets conds.now) self.old }
+        requires mild { ends_run directive ≡ false }
+        ensures printable { OnOk result ((names : List (List ℕ)) → StaysHeld names line.now self.old self.new) }
+        ensures moved { OnOk result ((standard : Standard) (names : List (List ℕ)) → SimulatesStep names (C.sets conds.now) self.old (C.sets conds.now) self.new
+            (λ files config m. plain_by m (seen_line standard names files line.now) directive)) }
+        ensures gathers { OnOk result (GathersFrom line.now self.old self.new) }
+    {
+        match directive {
+            None => self.put(conds, line),
+            Some(_) => Ok(()),
+        }
+    }
+
+    /// What a directive does, once the runs were closed, that is no conditional one.
     #[tactic(auto, using(sc_model::proofs::SetLemmas::conditions))]
-    fn plain_line<C: Conditions>(
+    fn plain_directive<C: Conditions>(
         &mut self,
         alloc: Global,
         conds: &mut C,
         names: &Names,
         standard: Standard,
         line: &[Token],
-        directive: Option<Directive>,
+        directive: Directive,
     ) -> Result<(), Stop>
         requires held { All (IsHeld names.now) line.now }
         requires owns { Owns (C.sets conds.old) self.old }
         requires table { IsTable (C.sets conds.old) names.now self.old.table }
-        requires line { (directive ≡ None → ⊥) → 0 < length line.now }
+        requires line { 0 < length line.now }
         ensures printable { OnOk result (StaysHeld names.now line.now self.old self.new) }
-        ensures moved { OnOk result (SimulatesStep names.now (C.sets conds.old) self.old (C.sets conds.new) self.new
-            (λ files config m. plain_by m (seen_line standard names.now files line.now) directive)) }
+        ensures moved { OnOk result (StepsBetweenRuns names.now (C.sets conds.old) self.old (C.sets conds.new) self.new
+            (λ files config m. plain_by m (seen_line standard names.now files line.now) (Some directive))) }
         ensures memory { IfErr result (λ s. s ≡ stop.OutOfMemory) }
         ensures gathers { OnOk result (GathersFrom line.now self.old self.new) }
         ensures keeps { Keeps (C.sets conds.old) (C.sets conds.new) }
     {
         match directive {
-            None => Ok(self.put(conds, line)?),
-            Some(Directive::Define) => self.define(alloc, conds, names, standard, line),
-            Some(Directive::Undef) => self.undef(conds, names, line),
-            Some(Directive::Pragma) => Ok(self.pragma(conds, names, line)?),
-            Some(directive) => self.other_line(conds, line, directive),
+            Directive::Define => self.define(alloc, conds, names, standard, line),
+            Directive::Undef => self.undef(conds, names, line),
+            Directive::Pragma => Ok(self.pragma(conds, names, line)?),
+            _ => self.other_line(conds, line, directive),
         }
     }
 
@@ -262,7 +281,7 @@ impl Walk {
         requires table { IsTable (C.sets conds.old) names.now self.old.table }
         requires line { 0 < length line.now }
         ensures printable { OnOk result (StaysHeld names.now line.now self.old self.new) }
-        ensures moved { OnOk result (SimulatesStep names.now (C.sets conds.old) self.old (C.sets conds.new) self.new
+        ensures moved { OnOk result (StepsBetweenRuns names.now (C.sets conds.old) self.old (C.sets conds.new) self.new
             (λ files config m. changing m (seen_line standard names.now files line.now) kind.Define
             (changed_by m.state.macros (seen_line standard names.now files line.now) kind.Define))) }
         ensures memory { IfErr result (λ s. s ≡ stop.OutOfMemory) }
@@ -290,7 +309,7 @@ impl Walk {
         requires table { IsTable (C.sets conds.old) names.now self.old.table }
         requires line { 0 < length line.now }
         ensures printable { OnOk result ((names : List (List ℕ)) → StaysHeld names line.now self.old self.new) }
-        ensures moved { OnOk result ((standard : Standard) → SimulatesStep names.now (C.sets conds.old) self.old (C.sets conds.new) self.new
+        ensures moved { OnOk result ((standard : Standard) → StepsBetweenRuns names.now (C.sets conds.old) self.old (C.sets conds.new) self.new
             (λ files config m. changing m (seen_line standard names.now files line.now) kind.Define (defined_as m.state.macros (Ok (seen_defined names.now definition))))) }
         ensures memory { IfErr result (λ s. s ≡ stop.OutOfMemory) }
         ensures gathered { OnOk result (self.new.gathered ≡ self.old.gathered) }
@@ -314,7 +333,7 @@ impl Walk {
         requires table { IsTable (C.sets conds.old) names.now self.old.table }
         requires line { 0 < length line.now }
         ensures printable { OnOk result ((names : List (List ℕ)) → StaysHeld names line.now self.old self.new) }
-        ensures moved { OnOk result ((standard : Standard) → SimulatesStep names.now (C.sets conds.old) self.old (C.sets conds.new) self.new
+        ensures moved { OnOk result ((standard : Standard) → StepsBetweenRuns names.now (C.sets conds.old) self.old (C.sets conds.new) self.new
             (λ files config m. changing m (seen_line standard names.now files line.now) kind.Undef
             (changed_by m.state.macros (seen_line standard names.now files line.now) kind.Undef))) }
         ensures memory { IfErr result (λ s. s ≡ stop.OutOfMemory) }
@@ -341,7 +360,7 @@ impl Walk {
         requires table { IsTable (C.sets conds.old) names.now self.old.table }
         requires line { 0 < length line.now }
         ensures printable { OnOk result ((names : List (List ℕ)) → StaysHeld names line.now self.old self.new) }
-        ensures moved { OnOk result ((standard : Standard) → SimulatesStep names.now (C.sets conds.old) self.old (C.sets conds.new) self.new
+        ensures moved { OnOk result ((standard : Standard) → StepsBetweenRuns names.now (C.sets conds.old) self.old (C.sets conds.new) self.new
             (λ files config m. changing m (seen_line standard names.now files line.now) kind.Undef (undefined m.state.macros (Some (text_at names.now name.0))))) }
         ensures memory { IfErr result (λ s. s ≡ stop.OutOfMemory) }
         ensures gathered { OnOk result (self.new.gathered ≡ self.old.gathered) }

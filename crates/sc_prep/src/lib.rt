@@ -19,6 +19,7 @@ mod next_line;
 mod numbering;
 mod once;
 mod prepared;
+mod settling;
 mod walk;
 
 pub use main_file::preprocess;

@@ -17,7 +17,7 @@ use Rattle.sc_prep.specs.Apart.{StandApart, tokens_in}
 use Rattle.sc_prep.specs.declared.walk.Walk.{Walk}
 use Rattle.sc_prep.proofs.LineSteps.{directive-long, lines-stand}
 use Rattle.sc_prep.proofs.Passing.{next-after}
-use Rattle.sc_prep.proofs.PlainRuns.{each-closes-plain, path-plain}
+use Rattle.sc_prep.proofs.PlainRuns.{each-any, path-plain}
 use Rattle.sc_prep.proofs.WalkLeads.{gone-line, gone-nowhere, gone-over, line-directive, line-placed-now}
 use Rattle.sc_prep.specs.Machine as machine
 use Rattle.sc_prep.specs.Simulates.{IsBetweenRuns, IsIn, Leads}
@@ -203,7 +203,7 @@ take_line-returns-in_default-clause-ready g t c = on_ok_weaker c.local_line.resu
 
 pub take_line-returns-in_default-clause-plain : goal.take_line-returns-in_default-clause-plain
 take_line-returns-in_default-clause-plain g t c =
-    on_ok_weaker c.local_line.result (λ takes. λ x context agrees sound all paths each list. (takes x).plain (each-closes-plain each) list) c.local_line.ensures.takes
+    on_ok_weaker c.local_line.result (λ takes. λ x context agrees sound all paths each list. (takes x).plain (each-any each) list) c.local_line.ensures.takes
 
 pub take_line-returns-in_default-clause-paths : goal.take_line-returns-in_default-clause-paths
 take_line-returns-in_default-clause-paths g t c = on_ok_weaker c.local_line.result (λ takes. λ x context agrees sound all paths each. paths) c.local_line.ensures.takes

@@ -28,11 +28,11 @@ number_line-requires-clause-stored g c =
     let closed = c.in_ok-close_runs.ensures.closes in
     record { owns = closed.simulates.owns; table = closed.simulates.table; held = closed.held }
 
-pub plain_line-requires-clause-held : goal.plain_line-requires-clause-held
-plain_line-requires-clause-held g c = λ k d h. (placed-grown c.in_ok-close_runs.ensures.names (length c.args.files.now) _ (c.requires.placed k d h)).held
+pub plain_directive-requires-clause-held : goal.plain_directive-requires-clause-held
+plain_directive-requires-clause-held g c = λ k d h. (placed-grown c.in_ok-close_runs.ensures.names (length c.args.files.now) _ (c.requires.placed k d h)).held
 
-pub plain_line-requires-clause-line : goal.plain_line-requires-clause-line
-plain_line-requires-clause-line g c = λ _. directive-long c.args.standard c.args.names.now c.args.line.now (Some c.args.directive) c.requires.directive (λ e. absurd (cc))
+pub plain_directive-requires-clause-line : goal.plain_directive-requires-clause-line
+plain_directive-requires-clause-line g c = directive-long c.args.standard c.args.names.now c.args.line.now (Some c.args.directive) c.requires.directive (λ e. absurd (cc))
 
 pub returns-in-Line-clause-takes : goal.returns-in-Line-clause-takes
 returns-in-Line-clause-takes g c = on_ok_weaker c.number_line.result (λ carries x.
@@ -69,8 +69,8 @@ returns-in-Line-clause-names g c = Extends-trans c.in_ok-close_runs.ensures.name
 
 pub returns-in_default-clause-takes : goal.returns-in_default-clause-takes
 returns-in_default-clause-takes g c =
-    let p = c.plain_line.ensures in
-    ok-three c.plain_line.result (λ moved stays gathers x.
+    let p = c.plain_directive.ensures in
+    ok-three c.plain_directive.result (λ moved stays gathers x.
     let first = c.in_ok-close_runs.ensures in
     let closed = first.closes in
     let d = c.args.directive in
@@ -81,15 +81,15 @@ returns-in_default-clause-takes g c =
       simulates = takes-closed c.args.standard c.args.files.now line d c.requires.directive c.requires.barrier.0 (unsaid d c.requires.barrier.1 c.in_default.not-Line) (barrier-unconditional d c.requires.barrier.0)
           first.names (λ k e h. (c.requires.placed k e h).held) first.keeps closed.simulates moved x;
       held = stays count any_token placed closed.held;
-      plain = λ plain was. stays-plain c.close_runs.new.names count line c.close_runs.new.self c.plain_line.new.self stays placed closed.held (closed.plain plain was);
-      gathers = gathers-then [] line c.args.self.now c.close_runs.new.self c.plain_line.new.self closed.gathers gathers;
+      plain = λ plain was. stays-plain c.close_runs.new.names count line c.close_runs.new.self c.plain_directive.new.self stays placed closed.held (closed.plain plain was);
+      gathers = gathers-then [] line c.args.self.now c.close_runs.new.self c.plain_directive.new.self closed.gathers gathers;
     }) p.moved p.printable p.gathers
 
 pub returns-in_default-clause-stops : goal.returns-in_default-clause-stops
-returns-in_default-clause-stops g c = λ x. IfErr-weaker c.plain_line.result _ _ (no-memory _ _ _ _ _ _ c.args.limit) c.plain_line.ensures.memory
+returns-in_default-clause-stops g c = λ x. IfErr-weaker c.plain_directive.result _ _ (no-memory _ _ _ _ _ _ c.args.limit) c.plain_directive.ensures.memory
 
 pub returns-in_default-clause-keeps : goal.returns-in_default-clause-keeps
-returns-in_default-clause-keeps g c = Keeps-trans c.in_ok-close_runs.ensures.keeps c.plain_line.ensures.keeps
+returns-in_default-clause-keeps g c = Keeps-trans c.in_ok-close_runs.ensures.keeps c.plain_directive.ensures.keeps
 
 pub returns-in_err-close_runs-clause-stops : goal.returns-in_err-close_runs-clause-stops
 returns-in_err-close_runs-clause-stops g c = λ x.

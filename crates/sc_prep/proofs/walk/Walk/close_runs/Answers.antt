@@ -1,19 +1,16 @@
 use Rattle.std.proofs.Common.{◌≡◌, ◌∙◌, rules, sym, refl, true, []}
+use Rattle.std.proofs.lemmas.Result.{IfErr-weaker, on_ok_weaker}
 use Rattle.c11_directives.specs.Footprints.{NameHas}
-use Rattle.sc_expand.proofs.FootprintLemmas.{expand-stops}
+use Rattle.sc_base.proofs.Growth.{Extends-trans}
 use Rattle.sc_model.proofs.SetLemmas.{Keeps-trans}
-use Rattle.sc_prep.proofs.ApartLemmas.{gathers-same, gathers-within}
-use Rattle.sc_prep.proofs.CloseMoves.{closed-held, closed-plain, closes, closes-empty, closes-none, no-items}
-use Rattle.sc_prep.proofs.NameStops.{run-stops}
-use Rattle.sc_prep.proofs.WalkMoves.{owns-kept}
+use Rattle.sc_prep.proofs.ApartLemmas.{gathers-same}
+use Rattle.sc_prep.proofs.CloseMoves.{closes-empty, closes-none, no-items}
+use Rattle.sc_prep.proofs.SettleMoves.{settled-closes, settled-stops, stage-stored}
+use Rattle.sc_prep.proofs.Stages.{no-memory}
 use Rattle.sc_prep.specs.Apart.{tokens_in}
 use Rattle.sc_prep.specs.Machine.{acts}
 use Rattle.sc_prep.specs.Stages.{StopsStage}
-use Rattle.sc_table.specs.Table.{macros_at}
 use Rattle.sc_prep.proofs.walk.Walk.close_runs.Goals as goal
-
-pub put_out-requires-clause-owns : goal.put_out-requires-clause-owns
-put_out-requires-clause-owns g c = owns-kept c.in_ok-expanded.ensures.keeps c.args.self.now c.requires.stored.owns
 
 pub returns-then-is_never-clause-closes : goal.returns-then-is_never-clause-closes
 returns-then-is_never-clause-closes g c =
@@ -37,42 +34,29 @@ returns-then-len-eq0-clause-closes g c =
       gathers = gathers-same [] w w refl;
     }
 
+pub close_gathered-requires : goal.close_gathered-requires
+close_gathered-requires g c = record { stored = stage-stored c.in_ok-settle_runs.ensures.keeps c.in_ok-settle_runs.ensures.stays }
+
 pub returns-clause-closes : goal.returns-clause-closes
-returns-clause-closes g c =
-    let x = c.in_ok-expanded.ensures in
-    let e = c.in_ok-expanded.expanded in
-    let files = c.args.files.now in
-    let names = c.args.names.now in
-    let more = c.expand.new.names in
-    let later = c.in_ok-put_out.ensures.keeps in
-    let w = c.args.self.now in
-    let next = c.put_out.new.self in
-    let puts = c.in_ok-put_out.ensures.puts in
-    let stored = c.requires.stored in
-    record {
-      simulates = closes files names more x.keeps later x.names w next e stored.owns stored.table stored.held x.expands x.others x.held puts;
-      held = closed-held files names more x.keeps later x.names w next e stored.owns stored.table stored.held x.expands x.others x.held puts;
-      plain = closed-plain files names more x.keeps later x.names w next e stored.owns stored.table stored.held x.expands x.others x.held puts;
-      gathers = gathers-within [] w next puts.gathered;
-    }
+returns-clause-closes g c = on_ok_weaker c.close_gathered.result (settled-closes c.in_ok-settle_runs.ensures.keeps c.in_ok-settle_runs.ensures.stays) c.close_gathered.ensures.closes
+
+pub returns-clause-stops : goal.returns-clause-stops
+returns-clause-stops g c =
+    IfErr-weaker c.close_gathered.result _ _ (settled-stops c.in_ok-settle_runs.ensures.keeps c.in_ok-settle_runs.ensures.stays c.args.limit) c.close_gathered.ensures.stops
 
 pub returns-clause-keeps : goal.returns-clause-keeps
-returns-clause-keeps g c = Keeps-trans c.in_ok-expanded.ensures.keeps c.in_ok-put_out.ensures.keeps
+returns-clause-keeps g c = Keeps-trans c.in_ok-settle_runs.ensures.keeps c.close_gathered.ensures.keeps
 
-pub returns-in_err-put_out-clause-keeps : goal.returns-in_err-put_out-clause-keeps
-returns-in_err-put_out-clause-keeps g c = Keeps-trans c.in_ok-expanded.ensures.keeps c.in_err-put_out.ensures.keeps
+pub returns-clause-names : goal.returns-clause-names
+returns-clause-names g c = Extends-trans c.in_ok-settle_runs.ensures.names c.close_gathered.ensures.names
 
-pub returns-in_err-expanded-clause-stops : goal.returns-in_err-expanded-clause-stops
-returns-in_err-expanded-clause-stops g c =
+pub returns-in_err-settle_runs-clause-stops : goal.returns-in_err-settle_runs-clause-stops
+returns-in_err-settle_runs-clause-stops g c =
     let s = g.C.Conditions.sets c.args.conds.now in
     let w = c.args.self.now in
     let names = c.args.names.now in
     let files = c.args.files.now in
-    let stop = c.in_err-expanded.field-0.0 in
-    let stops = c.in_err-expanded.ensures.stops in
+    let stop = c.in_err-settle_runs.field-0.0 in
     let kept : StopsStage s names files w (tokens_in w.gathered) (λ config m f. (acts m ≡ true) × NameHas m.state.macros m.state.run f) c.args.limit stop =
-    record {
-      by = expand-stops s names files (macros_at s names w.table) w.acting.0 w.gathered c.args.limit stop stops;
-      at_place = run-stops s names files w c.args.limit stop stops;
-    } in
+    no-memory s names files w (tokens_in w.gathered) (λ config m f. (acts m ≡ true) × NameHas m.state.macros m.state.run f) c.args.limit stop c.in_err-settle_runs.ensures.memory in
     search rules

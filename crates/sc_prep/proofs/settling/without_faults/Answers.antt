@@ -1,0 +1,35 @@
+use Rattle.std.proofs.Common.{◌+◌, ◌∙◌, ap, take}
+use Rattle.std.proofs.lemmas.List.{take_more}
+use Rattle.std.proofs.lemmas.List.Elements.{All-get_or}
+use Rattle.sc_base.specs.declared.fault.Fault.{Fault}
+use Rattle.sc_guarded.proofs.ItemLemmas.{faults_at-append}
+use Rattle.sc_guarded.specs.Items.{faults_at}
+use Rattle.sc_model.proofs.SetLemmas.{Denotes-Keeps, Denotes-self, Keeps-refl, Keeps-trans}
+use Rattle.sc_model.specs.Sets.{IsCond}
+use Rattle.sc_prep.proofs.RunLemmas.{without-nothing, without-one}
+use Rattle.sc_prep.proofs.settling.without_faults.Goals as goal
+
+pub loop-fault-init : goal.loop-fault-init
+loop-fault-init g c = record {
+  keeps = Keeps-refl (g.C.Conditions.sets c.args.conds.now);
+  without = without-nothing Fault (g.C.Conditions.sets c.args.conds.now) c.args.all.0 c.requires.own;
+}
+
+pub loop-fault-preserved : goal.loop-fault-preserved
+loop-fault-preserved g c =
+    let first = g.C.Conditions.sets c.args.conds.now in
+    let faults = c.args.faults.now in
+    let i = c.loop-fault.fault-index in
+    let was = c.loop-fault.invariant in
+    let k1 = c.in_ok-others.ensures.keeps in
+    let k2 = c.in_ok-left.ensures.keeps in
+    record {
+      keeps = Keeps-trans was.keeps (Keeps-trans k1 k2);
+      without = without-one (first.has c.args.all.0) _ (faults_at first (take i faults)) (faults_at first (take (i + 1) faults)) _
+          (λ config. ap (λ xs. faults_at first xs config) (take_more faults i _ c.loop-fault-test.true) ∙ faults_at-append first (take i faults) _ config)
+          (c.in_ok-left.ensures.meaning _ _ (Denotes-Keeps k1 was.without) (c.in_ok-others.ensures.meaning _ (Denotes-Keeps was.keeps
+          (Denotes-self first _ (All-get_or (λ (f : Fault). IsCond first f.cond.0) faults i _ c.loop-fault-test.true c.requires.faults)))));
+    }
+
+pub returns-in_err-left-clause-keeps : goal.returns-in_err-left-clause-keeps
+returns-in_err-left-clause-keeps g c = Keeps-trans c.loop-fault.invariant.keeps (Keeps-trans c.in_ok-others.ensures.keeps c.in_err-left.ensures.keeps)
