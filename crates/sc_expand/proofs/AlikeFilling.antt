@@ -1,22 +1,9 @@
 -- Configurations that have the same of a call have the same of what replaces it, and of its
 -- argument as it is entered and left.
 use Rattle.std.proofs.Common.{◌≡◌, ℕ, suc, ◌-◌, ◌&&◌, ◌++◌, ◌∷◌, [], List, All, Some, drop, length, length-append, map, slice_get, take, inl, inr, refl, sym, ap, subst, arith, ◌∙◌, if◌then◌else◌}
-use Rattle.sc_base.proofs.Growth.{push_cases}
-use Rattle.std.proofs.lemmas.List.Elements.{All-cons, All-head, All-map, All-nil, All-push, All-set, All-tail}
-use Rattle.sc_base.specs.declared.id.Cond.{Cond}
 use Rattle.sc_expand.proofs.AlikeLemmas.{All-both, AreAlike-Keeps, IsAlikeCall-Keeps, alike-of, enclosing-last, enclosing-others, of-all}
-use Rattle.sc_expand.specs.Alike.{AreAlikeRefusals, IsAlikeCall, IsAlikeEnclosing, IsAlikeExpansion, IsAlikeFrame, Others, no_others, others_at}
-use Rattle.sc_expand.specs.declared.call.Call.{Call}
-use Rattle.sc_expand.specs.declared.call.Wanted.{Wanted}
-use Rattle.sc_expand.specs.declared.expansion.Expansion.{Expansion}
-use Rattle.sc_expand.specs.declared.frame.Enclosing.{Enclosing}
-use Rattle.sc_expand.specs.Machine.{HasEntered, IsResumed}
-use Rattle.sc_expand.specs.Seen.{IsHeldCall, Stores}
-use Rattle.sc_guarded.specs.Items.{items_at}
-use Rattle.sc_hoist.specs.Alike.{AreAlike, IsAlike}
-use Rattle.sc_model.proofs.SetLemmas.{IsConfig-Keeps}
-use Rattle.sc_model.specs.Sets.{Denotes, IsCond, IsConfig, Keeps, Sets}
-use Rattle.sc_subst.specs.declared.hidden.Hidden.{Hidden}
+use Rattle.sc_expand.proofs.Facts.{All-cons, All-head, All-map, All-nil, All-push, All-set, All-tail, IsConfig-Keeps, push_cases}
+use Rattle.sc_expand.proofs.Terms.{AreAlike, AreAlikeRefusals, Call, Cond, Denotes, Enclosing, Expansion, HasEntered, Hidden, IsAlike, IsAlikeCall, IsAlikeEnclosing, IsAlikeExpansion, IsAlikeFrame, IsCond, IsConfig, IsHeldCall, IsResumed, Keeps, Others, Sets, Stores, Wanted, items_at, no_others, others_at}
 
 -- ---- lists
 

@@ -1,28 +1,8 @@
 -- What two configurations have of a call that is taken out of its list.
 use Rattle.std.proofs.Common.{◌≡◌, ◌∙◌, ℕ, ◌+◌, Bool, true, false, List, [], ◌∷◌, All, map, drop, take, refl, sym, ap, subst, if◌then◌else◌}
-use Rattle.std.proofs.lemmas.List.Elements.{All-cons, All-head, All-nil, All-tail}
-use Rattle.c11_macros.specs.Macros.{Form}
-use Rattle.sc_model.specs.Token.{Item}
-use Rattle.sc_base.specs.declared.id.Cond.{Cond}
-use Rattle.sc_base.specs.declared.id.Name.{Name}
-use Rattle.sc_base.specs.declared.token.Token.{Token}
-use Rattle.sc_base.specs.Seen.{text_at}
 use Rattle.sc_expand.proofs.BeginningLemmas.{same_conds}
-use Rattle.sc_expand.specs.Alike.{IsAlikeCall, IsSameCall}
-use Rattle.sc_expand.specs.Beginning.{Begins}
-use Rattle.sc_expand.specs.declared.call.Call.{Call}
-use Rattle.sc_expand.specs.Having.{has_each, tokens_in}
-use Rattle.sc_expand.specs.Plain.{Waiting}
-use Rattle.sc_expand.specs.Seen.{AreHeld, Grows, Stores, seen_at, stores}
-use Rattle.sc_base.specs.declared.place.Place.{Place}
-use Rattle.sc_guarded.specs.Items.{items_at}
-use Rattle.sc_hoist.specs.Alike.{AreAlike, IsAlike}
-use Rattle.sc_hoist.specs.Calls.{call_end, call_end_at, call_length, call_places, spelled_at}
-use Rattle.sc_hoist.specs.Places.{places_from}
-use Rattle.sc_model.specs.Sets.{Sets}
-use Rattle.sc_subst.proofs.Later.{text_later}
-use Rattle.sc_subst.specs.declared.hidden.Hidden.{Hidden}
-use Rattle.sc_subst.specs.Seen.{seen_hidden}
+use Rattle.sc_expand.proofs.Facts.{All-cons, All-head, All-nil, All-tail, text_later}
+use Rattle.sc_expand.proofs.Terms.{AreAlike, AreHeld, Begins, Call, Cond, Form, Grows, Hidden, IsAlike, IsAlikeCall, IsSameCall, Item, Name, Place, Sets, Stores, Token, Waiting, call_end, call_end_at, call_length, call_places, has_each, items_at, places_from, seen_at, seen_hidden, spelled_at, stores, text_at, tokens_in}
 
 -- ---- what tells the tokens of a configuration
 

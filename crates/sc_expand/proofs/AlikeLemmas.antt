@@ -1,23 +1,8 @@
 -- Configurations that have the same keep it while the store of conditions grows.
 use Rattle.std.proofs.Common.{◌≡◌, ◌≤◌, ◌++◌, ◌∷◌, ◌-◌, ℕ, zero, suc, Bool, List, [], All, Some, drop, get_or, length, slice_get, take, inl, inr, refl, sym, ap, subst, arith, ◌∙◌, map, true, false, if◌then◌else◌}
-use Rattle.std.proofs.lemmas.Bool.{cases_lt}
 use Rattle.std.proofs.lemmas.List.{take-take, take_all, get_or-map, length-map}
-use Rattle.std.proofs.lemmas.List.Elements.{All-cons, All-drop, All-head, All-nil, All-push, All-tail, All-take}
-use Rattle.std.proofs.lemmas.Option.{get_or_from_slice_get, slice_get_within}
-use Rattle.sc_base.specs.declared.fault.Fault.{Fault}
-use Rattle.sc_base.specs.declared.id.Cond.{Cond}
-use Rattle.sc_expand.specs.Alike.{AreAlikeRefusals, IsAlikeCall, IsAlikeEnclosing, IsAlikeExpansion, IsAlikeFrame, IsAlikeIn, Others, Span, no_others, others_at}
-use Rattle.sc_hoist.specs.Alike.{AreAlike, AreAlikeFaults, IsAlike}
-use Rattle.sc_expand.specs.declared.call.Call.{Call}
-use Rattle.sc_expand.specs.declared.expansion.Expansion.{Expansion}
-use Rattle.sc_expand.specs.declared.frame.Enclosing.{Enclosing}
-use Rattle.sc_expand.specs.declared.frame.Frame.{Frame}
-use Rattle.sc_expand.specs.declared.refusals.Refusals.{Refusals}
-use Rattle.sc_expand.specs.Machine.{IsHeldExpansion}
-use Rattle.sc_expand.specs.Seen.{AreHeld, IsHeldCall, IsHeldEnclosing, IsHeldFrame, IsHeldRefusals, Stores}
-use Rattle.sc_model.proofs.ListLemmas.{slice_get-front, slice_get-seam}
-use Rattle.sc_model.specs.Sets.{Denotes, IsCond, IsConfig, Keeps, Sets}
-use Rattle.sc_subst.specs.declared.hidden.Hidden.{Hidden}
+use Rattle.sc_expand.proofs.Facts.{All-cons, All-drop, All-head, All-nil, All-push, All-tail, All-take, cases_lt, get_or_from_slice_get, slice_get-front, slice_get-seam, slice_get_within}
+use Rattle.sc_expand.proofs.Terms.{AreAlike, AreAlikeFaults, AreAlikeRefusals, AreHeld, Call, Cond, Denotes, Enclosing, Expansion, Fault, Frame, Hidden, IsAlike, IsAlikeCall, IsAlikeEnclosing, IsAlikeExpansion, IsAlikeFrame, IsAlikeIn, IsCond, IsConfig, IsHeldCall, IsHeldEnclosing, IsHeldExpansion, IsHeldFrame, IsHeldRefusals, Keeps, Others, Refusals, Sets, Span, Stores, no_others, others_at}
 
 -- what holds where both others do
 pub All-both : {A : Type 0} (P Q R : A → Type 0) → ((x : A) → P x → Q x → R x) → (xs : List A) → All P xs → All Q xs → All R xs

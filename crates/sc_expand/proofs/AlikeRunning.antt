@@ -1,35 +1,16 @@
 -- Configurations that are alike stay so through the turns of an expansion, where what one of them
 -- looks up is defined alike for both.
 use Rattle.std.proofs.Common.{◌≡◌, ℕ, Bool, true, List, [], ◌∷◌, Some, drop, length, map, slice_get, inl, inr, sym, ap, subst, ◌∙◌, if◌then◌else◌}
-use Rattle.std.proofs.lemmas.List.Elements.{All-nil}
-use Rattle.c11_macros.specs.Expansion.{IsWithin}
-use Rattle.c11_macros.specs.Hidden.{Provenance}
-use Rattle.c11_macros.specs.Macros.{Macros}
-use Rattle.sc_base.specs.declared.id.Cond.{Cond}
-use Rattle.sc_base.specs.declared.place.Place.{Place}
 use Rattle.sc_expand.proofs.AlikeGathering.{same-call}
 use Rattle.sc_expand.proofs.AlikeLemmas.{all-of, others-none}
+use Rattle.sc_expand.proofs.Facts.{All-nil, IsConfig-Keeps, cons-some}
 use Rattle.sc_expand.proofs.MachineLemmas.{pending_at, progress-step, stands-cases, state-top}
 use Rattle.sc_expand.proofs.PlainAgreement.{AgreesFrom, agrees-move, agrees-name, agrees-start, agrees-under}
 use Rattle.sc_expand.proofs.PlainTurns.{under}
 use Rattle.sc_expand.proofs.Rests.{first-is}
 use Rattle.sc_expand.proofs.RunLemmas.{IsRunning, rests-at, running-stands, start-state, turned-at}
-use Rattle.sc_expand.specs.Alike.{CallNextAlike, DefineAlike, DefineNextAlike, IsAlikeExpansion, IsAlikeFrame, IsSameCall, no_others}
-use Rattle.sc_expand.specs.declared.expansion.Expansion.{Expansion}
-use Rattle.sc_expand.specs.declared.frame.Enclosing.{Enclosing}
-use Rattle.sc_expand.specs.Machine.{IsHeldExpansion, Progress, Stands, state_in}
-use Rattle.sc_expand.specs.Plain.{State, scanning}
-use Rattle.sc_expand.specs.Running.{IsRested, IsTurned, IsUntouched}
-use Rattle.sc_expand.specs.Seen.{Grows, Stores, calls_at, provenance_of, seen_at, state_by, view_at}
-use Rattle.sc_expand.specs.Turn.{At}
-use Rattle.sc_guarded.specs.Items.{items_at}
-use Rattle.sc_hoist.specs.Alike.{AreAlike, IsAlike}
-use Rattle.sc_model.proofs.SetLemmas.{IsConfig-Keeps}
-use Rattle.sc_model.specs.Sets.{IsConfig, Sets}
-use Rattle.sc_subst.specs.declared.hidden.Hidden.{Hidden}
-use Rattle.sc_subst.specs.Seen.{seen_hidden}
+use Rattle.sc_expand.proofs.Terms.{AreAlike, At, CallNextAlike, Cond, DefineAlike, DefineNextAlike, Enclosing, Expansion, Grows, Hidden, IsAlike, IsAlikeExpansion, IsAlikeFrame, IsConfig, IsHeldExpansion, IsRested, IsSameCall, IsTurned, IsUntouched, IsWithin, Macros, Place, Progress, Provenance, Sets, Stands, State, Stores, calls_at, items_at, no_others, provenance_of, scanning, seen_at, seen_hidden, state_by, state_in, view_at}
 use Rattle.sc_expand.proofs.WaitingTaking.{first-of-all}
-use Rattle.c11_macros.proofs.CallEnds.{cons-some}
 
 -- a configuration that has the first token has it before the others
 pub seen-first : (st : Stores) (c : List ℕ) (work : List (Cond × Hidden)) (item : Cond × Hidden) → slice_get work 0 ≡ Some item → st.sets.has item.0.0 c ≡ true

@@ -1,43 +1,15 @@
 -- What taking a token comes to at two configurations that have the same.
-use Rattle.std.proofs.Common.{◌≡◌, ◌∙◌, ℕ, suc, ◌+◌, ◌-◌, ◌<◌, ◌≤◌, Bool, true, false, List, [], ◌∷◌, ◌++◌, All, Option, None, Some, Global, map, drop, take, length, get_or, refl, sym, ap, subst, arith, if◌then◌else◌}
-use Rattle.std.proofs.lemmas.List.{length-map, take_more}
-use Rattle.std.proofs.lemmas.List.Elements.{All-append, All-cons, All-head, All-map, All-nil}
-use Rattle.std.proofs.lemmas.Option.{slice_get_within}
-use Rattle.std.specs.declared.rc.Rc.{Rc}
-use Rattle.std.specs.Prelude.{IfSome, slice_get}
-use Rattle.c11_macros.specs.Defines.{is_function_like}
-use Rattle.c11_macros.specs.Expansion.{is_looked_up}
-use Rattle.std.specs.Option.{option_map}
-use Rattle.sc_base.specs.declared.id.Cond.{Cond}
+use Rattle.std.proofs.Common.{◌≡◌, ◌∙◌, ℕ, suc, ◌+◌, ◌-◌, ◌<◌, ◌≤◌, Bool, true, false, List, [], ◌∷◌, ◌++◌, All, Option, None, Some, Global, map, drop, take, length, get_or, refl, sym, ap, subst, arith, if◌then◌else◌, IfSome, slice_get}
 use Rattle.sc_expand.proofs.AlikeGathering.{each-same-call}
 use Rattle.sc_expand.proofs.AlikeLemmas.{All-but-put, All-but-tail, All-drop-push, IsAlike-Keeps, whole}
+use Rattle.sc_expand.proofs.Facts.{All-append, All-cons, All-head, All-map, All-nil, IsConfig-Keeps, IsConfig-kept, items_at-take, length-map, seen_definition-Extends, slice_get-front, slice_get-seam, slice_get_within, take_more}
 use Rattle.sc_expand.proofs.SeenLemmas.{macros_at-Grows}
 use Rattle.sc_expand.proofs.TakingSteps.{none-before}
 use Rattle.sc_expand.proofs.TakingTurns.{FirstTaken, first-both, first-grew}
+use Rattle.sc_expand.proofs.Terms.{AreAlike, AreAlikeRefusals, AreHeld, AreTaken, Cond, Enclosing, Expansion, Extends, Grows, HasPutOut, Hidden, IsAlike, IsAlikeCall, IsAlikeEnclosing, IsAlikeExpansion, IsAlikeFrame, IsAlikeIn, IsAlikeTaken, IsCond, IsConfig, IsFunction, IsFunctionLike, IsHeldDefinition, IsOneToOne, IsPushed, IsSameCall, IsTaken, MacroTable, Others, Rc, Sets, Span, Stores, Taken, TakesName, TakesPart, has_each, is_function_like, is_looked_up, items_at, macros_at, option_map, others_at, seen_definition, seen_hidden, stores, text_of}
 use Rattle.sc_expand.proofs.UnchangedLemmas.{All-before, All-behind}
-use Rattle.sc_expand.specs.Alike.{AreAlikeRefusals, IsAlikeCall, IsAlikeEnclosing, IsAlikeExpansion, IsAlikeFrame, IsAlikeIn, IsAlikeTaken, IsFunctionLike, IsSameCall, Others, Span, TakesName, others_at}
-use Rattle.sc_expand.specs.Having.{has_each}
-use Rattle.sc_expand.specs.Seen.{AreHeld, Grows, Stores, stores}
-use Rattle.sc_expand.specs.Taking.{AreTaken, HasPutOut, IsFunction, IsTaken, TakesPart}
 use Rattle.sc_expand.specs.Unchanged as unchanged
-use Rattle.sc_expand.specs.Unchanged.{IsPushed}
-use Rattle.sc_expand.specs.declared.expansion.Expansion.{Expansion}
-use Rattle.sc_expand.specs.declared.frame.Enclosing.{Enclosing}
-use Rattle.sc_expand.specs.declared.taking.Taken.{Taken}
-use Rattle.sc_guarded.proofs.ItemLemmas.{items_at-take}
-use Rattle.sc_guarded.specs.Items.{items_at}
-use Rattle.sc_hoist.specs.Alike.{AreAlike, IsAlike}
 use Rattle.sc_macro.specs.declared.definition.Definition.{Definition}
-use Rattle.sc_macro.specs.Seen.{IsHeldDefinition, seen_definition, text_of}
-use Rattle.sc_model.proofs.ListLemmas.{slice_get-front, slice_get-seam}
-use Rattle.sc_model.proofs.SetLemmas.{IsConfig-Keeps, IsConfig-kept}
-use Rattle.sc_model.specs.Growth.{Extends, IsOneToOne}
-use Rattle.sc_model.specs.Sets.{Sets, IsCond, IsConfig}
-use Rattle.sc_subst.specs.declared.hidden.Hidden.{Hidden}
-use Rattle.sc_subst.specs.Seen.{seen_hidden}
-use Rattle.sc_table.proofs.Growth.{seen_definition-Extends}
-use Rattle.sc_table.specs.declared.table.MacroTable.{MacroTable}
-use Rattle.sc_table.specs.Table.{macros_at}
 
 -- ---- tokens that are put
 

@@ -1,56 +1,16 @@
-use Rattle.sc_expand.specs.Having.{tokens_in}
--- What a template that was refused says, and lists of arguments.
-use Rattle.std.proofs.Common.{◌≡◌, ℕ, zero, suc, ◌+◌, ◌-◌, ◌<◌, ◌≤◌, ◌++◌, Bool, true, false, not, if◌then◌else◌, Option, Some, None, Result, Ok, Err, refl, subst, sym, ap, ◌∙◌, List, [], ◌∷◌, map, reverse, length, take, drop, get_or, All, arith, is_some}
-use Rattle.std.proofs.lemmas.List.{drop_more, length-drop, length-map, map-id, take-append-drop}
-use Rattle.std.proofs.Math.ListN.{get_or-map}
-use Rattle.std.proofs.lemmas.Option.{slice_get-get_or}
-use Rattle.std.proofs.lemmas.Simd.{map-map}
-use Rattle.std.proofs.lemmas.List.Elements.{All-drop, All-head, All-tail, All-weaker}
-use Rattle.std.specs.Prelude.{codes, is_ok, slice_get, IfNone, IfOk, IfSome}
-use Rattle.c11_macros.specs.Hidden as model
-use Rattle.c11_macros.specs.Hidden.{Failure, HideSet, Provenance, failure_at, meet, no_names, with_name}
-use Rattle.c11_macros.specs.Results.{result_and_then}
-use Rattle.c11_macros.specs.Call.{arguments_for, call_of}
+use Rattle.std.proofs.Common.{◌≡◌, ℕ, zero, suc, ◌+◌, ◌-◌, ◌<◌, ◌≤◌, ◌++◌, Bool, true, false, not, if◌then◌else◌, Option, Some, None, Result, Ok, Err, refl, subst, sym, ap, ◌∙◌, List, [], ◌∷◌, map, reverse, length, take, drop, get_or, All, arith, is_some, codes, is_ok, slice_get, IfNone, IfOk, IfSome}
 use Rattle.c11_macros.specs.Call.{Call as SomeCall}
-use Rattle.c11_macros.specs.Expansion.{call_case, case_of, defined_case, fitted_case, form_case, is_looked_up, list_of, looked_up_case, stays}
-use Rattle.c11_macros.specs.Macros.{Definition, Form, Macros, Rest, function_like}
-use Rattle.sc_model.specs.Token.{Item}
-use Rattle.c11_macros.specs.Substitution.{Slot, argument, kept, list_slots, parts_of, put_together, substituted, wanted_of}
-use Rattle.sc_base.proofs.Growth.{Extends-trans}
-use Rattle.sc_base.specs.declared.id.Cond.{Cond}
-use Rattle.sc_base.specs.declared.id.Name.{Name}
-use Rattle.sc_base.specs.declared.place.Place.{Place}
+use Rattle.sc_expand.proofs.Facts.{All-drop, All-head, All-tail, All-weaker, Extends-trans, IsHeldHidden-Extends, IsHeldSet-Extends, drop_more, get_or-map, hide_later, items_at-Keeps, items_at-append, length-drop, length-map, map-id, map-map, slice_get-get_or, take-append-drop, text_later}
 use Rattle.sc_expand.proofs.Parting.{parted_call}
-use Rattle.sc_expand.specs.Arguments.{parted}
-use Rattle.sc_expand.specs.Plain.{IsTemplate, gathered}
-use Rattle.sc_model.specs.Bytes.{same_bytes}
-use Rattle.sc_expand.specs.Beginning.{Begins, IsRefused, IsTemplateOf, token_at, tokens_of, with_argument}
-use Rattle.sc_expand.specs.Taking.{has_first}
-use Rattle.sc_expand.specs.Seen.{AreHeld, IsHeldCall, IsHeldTemplate, IsHeldToken, Stores, provenance_of, seen_at, seen_template, seen_wanted, stores, waiting_at}
-use Rattle.sc_expand.specs.declared.call.Call.{Call}
-use Rattle.sc_expand.specs.declared.call.Template.{Template}
-use Rattle.sc_expand.specs.declared.call.Wanted.{Wanted}
+use Rattle.sc_expand.proofs.Terms.{AreHeld, Begins, Call, Cause, Cond, Definition, Extends, Failure, Form, Hidden, HiddenToken, HideSet, IsCond, IsConfig, IsHeldCall, IsHeldHidden, IsHeldSet, IsHeldTemplate, IsHeldToken, IsRefused, IsTemplate, IsTemplateOf, Item, Keeps, Lasting, Macros, Name, OnFault, OnOperator, Place, Provenance, Rest, Sets, Slot, Stores, Template, Token, Wanted, argument, arguments_for, call_case, call_length, call_of, call_places, case_of, completed, defined_case, failure_at, fitted_case, form_case, function_like, gathered, has_first, hide_at, is_looked_up, items_at, kept, list_of, list_slots, looked_up_case, meet, no_names, parted, parts_of, places_from, provenance_of, put_together, result_and_then, same_bytes, seen_arguments, seen_at, seen_form, seen_hidden, seen_item, seen_list, seen_template, seen_wanted, spelled_at, stays, stores, substituted, text_of, token_at, tokens_in, tokens_of, waiting_at, wanted_of, with_argument, with_name}
 use Rattle.sc_macro.specs.declared.definition.Item as declared
 use Rattle.sc_macro.specs.declared.form.Form as declared_form
-use Rattle.sc_macro.specs.Seen.{seen_form, seen_item, text_of}
-use Rattle.sc_guarded.proofs.ItemLemmas.{items_at-Keeps, items_at-append}
-use Rattle.sc_guarded.specs.Items.{items_at}
-use Rattle.sc_hoist.specs.Calls.{call_length, call_places, spelled_at}
-use Rattle.sc_hoist.specs.Places.{places_from}
-use Rattle.sc_base.specs.declared.token.Token.{Token}
-use Rattle.sc_model.specs.Growth.{Extends}
-use Rattle.sc_model.specs.Sets.{Sets, IsCond, IsConfig, Keeps}
-use Rattle.sc_subst.proofs.Later.{IsHeldHidden-Extends, IsHeldSet-Extends, hide_later, text_later}
-use Rattle.sc_subst.proofs.Templates.{slots_fail}
-use Rattle.sc_subst.specs.declared.hidden.Hidden.{Hidden}
-use Rattle.sc_subst.specs.declared.stop.SubstStop.{SubstStop}
-use Rattle.sc_subst.specs.declared.stop.SubstStop.TheVariants.{Fault}
-use Rattle.sc_subst.specs.Halves.{completed}
-use Rattle.sc_subst.specs.Parts.{seen_arguments, seen_list}
-use Rattle.sc_subst.specs.Seen.{IsHeldHidden, IsHeldSet, Lasting, hide_at, seen_hidden}
-use Rattle.sc_model.specs.declared.cause.Cause.{Cause}
 use Rattle.sc_model.specs.declared.cause.Cause.TheVariants as cause
-use Rattle.sc_subst.specs.Stops.{OnFault, OnOperator}
+use Rattle.sc_subst.proofs.Templates.{slots_fail}
+use Rattle.sc_subst.specs.declared.stop.SubstStop.TheVariants.{Fault}
+use Rattle.sc_subst.specs.declared.stop.SubstStop.{SubstStop}
+
+-- What a template that was refused says, and lists of arguments.
 
 pub map_some : {A : Type 0} {P Q : A → Type 0} (r : Option A) → ((a : A) → P a → Q a) → IfSome r P → IfSome r Q
 map_some None f h = tt
@@ -98,7 +58,7 @@ in_some {A} P r a is h = subst (λ r. IfSome r P) is h
 -- ---- faults of a list
 
 -- no # fails where the whole has not its failure
-pub no_hash : (provenance : Provenance Place) (form : Form) (items : List Item) (head : model.Hidden Place) (raw expanded : List (List (model.Hidden Place))) (hidden : HideSet)
+pub no_hash : (provenance : Provenance Place) (form : Form) (items : List Item) (head : HiddenToken Place) (raw expanded : List (List (HiddenToken Place))) (hidden : HideSet)
     → (substituted provenance form items head raw expanded hidden ≡ Err (failure_at cause.BadStringize head) → ⊥) → is_ok (list_slots head raw form items) ≡ true
 no_hash provenance form items head raw expanded hidden differs = by (list_slots head raw form items) (slots_fail head raw (kept raw (parts_of form items))) differs
   where
@@ -109,9 +69,9 @@ no_hash provenance form items head raw expanded hidden differs = by (list_slots 
 
 module _ (names : List (List ℕ)) (sets : List (List Name)) (form : declared_form.Form) (items : List declared.Item) (raw : List (List Hidden)) (place : Place) where
   abbrev pub Fails : Cause → Type 0
-  Fails x = Lasting names sets (λ names sets. (head : model.Hidden Place) → head.place ≡ place → OnOperator x
+  Fails x = Lasting names sets (λ names sets. (head : HiddenToken Place) → head.place ≡ place → OnOperator x
       (list_slots head (seen_arguments names sets raw) (seen_form names form) (map (seen_item names) items) ≡ Err (failure_at cause.BadStringize head))
-      ((expanded : List (List (model.Hidden Place))) (provenance : Provenance Place) (hidden : HideSet)
+      ((expanded : List (List (HiddenToken Place))) (provenance : Provenance Place) (hidden : HideSet)
       → substituted provenance (seen_form names form) (map (seen_item names) items) head (seen_arguments names sets raw) expanded hidden ≡ Err (failure_at cause.BadPaste head)))
 
   pub refused_some : (stop : SubstStop) (template : Template) → OnFault stop Fails → IsRefused stop template
@@ -133,7 +93,7 @@ module _ (names : List (List ℕ)) (sets : List (List Name)) (form : declared_fo
       cause-differs : cause.BadPaste ≡ cause.BadStringize → ⊥
       cause-differs is = cc
 
-      other_cause : (head : model.Hidden Place) (made : Result (List (model.Hidden Place)) (Failure Place)) → made ≡ Err (failure_at cause.BadPaste head) → made ≡ Err (failure_at cause.BadStringize head) → ⊥
+      other_cause : (head : HiddenToken Place) (made : Result (List (HiddenToken Place)) (Failure Place)) → made ≡ Err (failure_at cause.BadPaste head) → made ≡ Err (failure_at cause.BadStringize head) → ⊥
       other_cause head made paste hash = let same : failure_at cause.BadPaste head ≡ failure_at cause.BadStringize head = cc in cause-differs (ap (λ (f : Failure Place). f.cause) same)
 
   pub refused_none : (stop : SubstStop) → OnFault stop Fails → stop ≡ Fault cause.BadStringize → Fails cause.BadStringize
@@ -146,7 +106,7 @@ argument_seen st [] n = refl
 argument_seen st (x ∷ xs) zero = refl
 argument_seen st (x ∷ xs) (suc n) = argument_seen st xs n
 
-abbrev pub seen_pair : Stores → ℕ × List Hidden → ℕ × List (model.Hidden Place)
+abbrev pub seen_pair : Stores → ℕ × List Hidden → ℕ × List (HiddenToken Place)
 seen_pair st p = (p.0, seen_list st.names st.hides p.1)
 
 wanted_pairs : (st : Stores) (ws : List Wanted) → map (seen_wanted st) ws ≡ map (seen_pair st) (map tokens_of ws)
@@ -231,9 +191,9 @@ files_of st files raw held = All-weaker (All (IsHeldToken st files)) (All (λ h.
 -- ---- the call as one configuration has it
 
 module _ (names : List (List ℕ)) (sets : List (List Name)) (provenance : Provenance Place) (d : Definition) where
-  unraised : (raw : List (List Hidden)) → map {B = List (model.Hidden Place)} (λ (a : List Hidden). []) raw ≡ map (λ (a : List (model.Hidden Place)). []) (seen_arguments names sets raw)
+  unraised : (raw : List (List Hidden)) → map {B = List (HiddenToken Place)} (λ (a : List Hidden). []) raw ≡ map (λ (a : List (HiddenToken Place)). []) (seen_arguments names sets raw)
   unraised [] = refl
-  unraised (x ∷ xs) = ap (λ (r : List (List (model.Hidden Place))). [] ∷ r) (unraised xs)
+  unraised (x ∷ xs) = ap (λ (r : List (List (HiddenToken Place))). [] ∷ r) (unraised xs)
 
   pub is_template : (items : List Item) (cond : Cond) (head close : Hidden) (raw : List (List Hidden)) (call : Call) (s : Sets) → list_of provenance d (seen_hidden names sets head) ≡ items
       → Begins names sets d.form items cond head close raw call
@@ -261,7 +221,7 @@ module _ (names : List (List ℕ)) (sets : List (List Name)) (provenance : Prove
 
 -- ---- what the tokens of a call say of it
 
-module _ {P : Type 0} (macros : Macros) (t opener close : model.Hidden P) (between after : List (model.Hidden P)) (d : Definition) (parameters : List (List ℕ)) (variadic : Option Rest) where
+module _ {P : Type 0} (macros : Macros) (t opener close : HiddenToken P) (between after : List (HiddenToken P)) (d : Definition) (parameters : List (List ℕ)) (variadic : Option Rest) where
   -- a name that is looked up, with a parenthesis behind it and one that closes it
   pub call_is : is_looked_up t ≡ true → macros t.spelling ≡ Some d → d.form ≡ function_like parameters variadic → same_bytes opener.spelling (codes "(") ≡ true
       → (call : SomeCall P) → call_of (length parameters) 0 (between ++ close ∷ after) ≡ Some call → call.rest ≡ after

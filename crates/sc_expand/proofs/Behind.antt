@@ -1,15 +1,8 @@
 -- How many items of a list stand behind each that a configuration has.
 use Rattle.std.proofs.Common.{◌≡◌, ◌⊎◌, inl, inr, ℕ, min, zero, suc, ◌-◌, ◌<◌, ◌≤◌, nat_lt, Bool, true, false, List, [], ◌∷◌, ◌++◌, All, take, drop, length, refl, sym, ap, ◌∙◌, arith, if◌then◌else◌}
-use Rattle.std.proofs.lemmas.Bool.{cases_lt, le-ltb, lt-ltb}
-use Rattle.std.proofs.lemmas.List.{drop_all, length-drop}
-use Rattle.std.proofs.lemmas.List.Elements.{All-head, All-tail, All-weaker}
-use Rattle.sc_base.specs.declared.id.Cond.{Cond}
-use Rattle.sc_expand.specs.FootprintSteps.{lower_of}
+use Rattle.sc_expand.proofs.Facts.{All-head, All-tail, All-weaker, cases_lt, drop_all, le-ltb, length-drop, lt-ltb}
 use Rattle.sc_expand.proofs.Lower.{lower-min}
-use Rattle.sc_expand.specs.Having.{HasLast, HasMore, behind_at}
-use Rattle.sc_guarded.specs.Items.{items_at}
-use Rattle.sc_model.specs.Sets.{Sets}
-use Rattle.sc_subst.specs.declared.hidden.Hidden.{Hidden}
+use Rattle.sc_expand.proofs.Terms.{Cond, HasLast, HasMore, Hidden, Sets, behind_at, items_at, lower_of}
 
 -- the numbers of a list that are less
 abbrev pub below : ℕ → List ℕ → List ℕ

@@ -1,27 +1,14 @@
 -- What the loop of an expansion keeps, through what is dropped before a turn and through the turn.
 use Rattle.std.proofs.Common.{◌≡◌, ◌<◌, ℕ, Bool, true, List, length}
-use Rattle.c11_macros.specs.Expansion.{IsWithin}
-use Rattle.c11_macros.specs.Macros.{Macros}
 use Rattle.sc_expand.proofs.AlikeRunning.{StayAlike, alike-rested, alike-start, alike-turned}
 use Rattle.sc_expand.proofs.PhasePairs.{phase-turned}
-use Rattle.sc_expand.proofs.Phases.{Phase}
 use Rattle.sc_expand.proofs.PhaseStarts.{phase-ready, phase-rested, phase-start}
 use Rattle.sc_expand.proofs.PhaseStops.{turn-stops}
+use Rattle.sc_expand.proofs.Phases.{Phase}
 use Rattle.sc_expand.proofs.PlainTables.{entry_names, within-table}
 use Rattle.sc_expand.proofs.RunLemmas.{IsRunning, running-rested, running-start, running-turned, steps_in, turned-less}
 use Rattle.sc_expand.proofs.SeenLemmas.{Grows-refl, Grows-trans, macros_at-Grows}
-use Rattle.sc_expand.specs.Alike.{TakesName}
-use Rattle.sc_expand.specs.CallStops.{StopsAt}
-use Rattle.sc_expand.specs.declared.expansion.Expansion.{Expansion}
-use Rattle.sc_expand.specs.Machine.{IsHeldExpansion}
-use Rattle.sc_expand.specs.Running.{IsRested, IsTurned, IsUntouched}
-use Rattle.sc_base.specs.declared.stop.Stop.{Stop}
-use Rattle.sc_expand.specs.Seen.{Grows, Stores, provenance_of}
-use Rattle.sc_expand.specs.Spans.{StopsApart}
-use Rattle.sc_model.specs.Sets.{IsConfig}
-use Rattle.sc_subst.specs.Seen.{seen_hidden}
-use Rattle.sc_table.specs.declared.table.MacroTable.{MacroTable}
-use Rattle.sc_table.specs.Table.{IsTable, macros_at}
+use Rattle.sc_expand.proofs.Terms.{Expansion, Grows, IsConfig, IsHeldExpansion, IsRested, IsTable, IsTurned, IsUntouched, IsWithin, MacroTable, Macros, Stop, StopsApart, StopsAt, Stores, TakesName, macros_at, provenance_of, seen_hidden}
 
 module _ (files : List (List ℕ)) (macros : List ℕ → Macros) where
   -- what holds of an expansion that began so, between two turns of its loop

@@ -1,18 +1,9 @@
 -- What a configuration still has of the list that lies below all others.
 use Rattle.std.proofs.Common.{◌≡◌, ℕ, ◌≤◌, Bool, true, false, List, [], ◌∷◌, ◌++◌, All, length, length-append, refl, sym, ap, ◌∙◌, arith, if◌then◌else◌}
-use Rattle.std.proofs.lemmas.List.Elements.{All-cons, All-head, All-nil}
-use Rattle.sc_base.specs.declared.id.Cond.{Cond}
+use Rattle.sc_expand.proofs.Facts.{All-cons, All-head, All-nil}
 use Rattle.sc_expand.proofs.LastLemmas.{behind-each}
+use Rattle.sc_expand.proofs.Terms.{Cond, Enclosing, Expansion, Frame, HasMore, Hidden, IsCond, IsConfig, IsHeldEnclosing, IsHeldExpansion, IsHeldFrame, Keeps, Sets, Stores, behind_at, bottom, bottom_by}
 use Rattle.sc_expand.proofs.WorkListLemmas.{has_each-Keeps}
-use Rattle.sc_expand.specs.declared.expansion.Expansion.{Expansion}
-use Rattle.sc_expand.specs.declared.frame.Enclosing.{Enclosing}
-use Rattle.sc_expand.specs.declared.frame.Frame.{Frame}
-use Rattle.sc_expand.specs.Having.{HasMore, behind_at}
-use Rattle.sc_expand.specs.Machine.{IsHeldExpansion}
-use Rattle.sc_expand.specs.Running.{bottom, bottom_by}
-use Rattle.sc_expand.specs.Seen.{IsHeldEnclosing, IsHeldFrame, Stores}
-use Rattle.sc_model.specs.Sets.{IsCond, IsConfig, Keeps, Sets}
-use Rattle.sc_subst.specs.declared.hidden.Hidden.{Hidden}
 
 -- ---- how many stand behind each
 

@@ -1,25 +1,10 @@
 -- Tokens that wait, where nothing follows them.
 use Rattle.std.proofs.Common.{◌≡◌, ℕ, zero, suc, ◌+◌, ◌&&◌, ◌||◌, not, Bool, true, false, List, [], ◌∷◌, ◌++◌, All, Some, map, take, slice_get, refl, sym, ap, ◌∙◌, subst, arith, append-nil, if◌then◌else◌}
-use Rattle.std.proofs.lemmas.List.{map-append}
-use Rattle.std.proofs.lemmas.List.Elements.{All-cons, All-head, All-nil, All-push, All-tail}
-use Rattle.c11_macros.specs.Hidden.{Failure}
-use Rattle.sc_base.specs.declared.fault.Fault.{Fault}
-use Rattle.sc_base.specs.declared.id.Cond.{Cond}
-use Rattle.sc_base.specs.declared.place.Place.{Place}
-use Rattle.sc_base.specs.declared.token.Token.{Token}
-use Rattle.sc_guarded.proofs.ItemLemmas.{faults_at-append, faults_at-Keeps, items_at-append, map-one}
-use Rattle.sc_guarded.specs.Items.{faults_at, items_at}
-use Rattle.sc_hoist.specs.Alike.{AreAlike, IsAlike}
-use Rattle.sc_model.specs.Sets.{Denotes, IsCond, IsConfig, IsNever, Keeps, Sets}
-use Rattle.sc_model.proofs.SetLemmas.{IsConfig-Keeps, IsConfig-kept}
+use Rattle.sc_expand.proofs.Ending.{bared}
+use Rattle.sc_expand.proofs.Facts.{All-cons, All-head, All-nil, All-push, All-tail, IsConfig-Keeps, IsConfig-kept, faults_at-Keeps, faults_at-append, items_at-append, map-append, map-one}
+use Rattle.sc_expand.proofs.Terms.{AreAlike, Cond, Denotes, Failure, Fault, Hidden, IsAlike, IsCond, IsConfig, IsNever, IsRestricted, Keeps, Place, Sets, Token, UnterminatedCall, empty, failures_at, faults_at, is_several, items_at, seen_failure, unclosed_at}
 use Rattle.sc_expand.proofs.UnchangedLemmas.{both-Keeps, restricted-append, restricted-Keeps}
 use Rattle.sc_expand.specs.Unchanged as unchanged
-use Rattle.sc_expand.specs.Closing.{is_several, unclosed_at}
-use Rattle.sc_expand.specs.Unchanged.{IsRestricted, empty}
-use Rattle.sc_expand.proofs.Ending.{bared}
-use Rattle.sc_expand.specs.Seen.{failures_at, seen_failure}
-use Rattle.sc_model.specs.declared.cause.Cause.TheVariants.{UnterminatedCall}
-use Rattle.sc_subst.specs.declared.hidden.Hidden.{Hidden}
 
 -- the list has an item
 abbrev pub is_any : {A : Type 0} → List A → Bool

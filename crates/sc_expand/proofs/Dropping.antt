@@ -1,14 +1,7 @@
 -- What is next drops out.
 use Rattle.std.proofs.Common.{◌≡◌, ℕ, ◌+◌, ◌-◌, true, false, List, [], ◌∷◌, ◌++◌, append-nil, MatchOption, Option, Some, None, option_to_list, is_some, slice_get, drop, take, refl, sym, ap, ◌∙◌}
-use Rattle.sc_base.specs.declared.id.Cond.{Cond}
-use Rattle.sc_expand.specs.declared.call.Call.{Call}
-use Rattle.sc_expand.specs.declared.expansion.Expansion.{Expansion}
-use Rattle.sc_expand.specs.declared.frame.Enclosing.{Enclosing}
+use Rattle.sc_expand.proofs.Terms.{Call, Cond, Enclosing, Expansion, Hidden, IsDropped, KeepsFirst, Sets}
 use Rattle.sc_expand.specs.Running as running
-use Rattle.sc_expand.specs.Running.{IsDropped}
-use Rattle.sc_expand.specs.Waiting.{KeepsFirst}
-use Rattle.sc_model.specs.Sets.{Sets}
-use Rattle.sc_subst.specs.declared.hidden.Hidden.{Hidden}
 
 -- where nothing was popped, there is nothing
 pub record IsNone (A : Type 0) (xs ys : List A) : Type 0 where

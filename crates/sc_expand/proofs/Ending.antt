@@ -1,13 +1,7 @@
 -- How an expansion begins and ends: tokens get an empty hide set, and lose their hide sets.
 use Rattle.std.proofs.Common.{◌≡◌, ℕ, ◌+◌, Bool, true, false, List, [], ◌∷◌, ◌++◌, All, map, take, Some, slice_get, refl, sym, ap, subst, ◌∙◌, if◌then◌else◌}
-use Rattle.std.proofs.lemmas.List.{append_assoc, map-append, take_more}
-use Rattle.std.proofs.lemmas.List.Elements.{All-push}
-use Rattle.std.proofs.lemmas.Option.{get_or_from_slice_get, slice_get_within}
-use Rattle.sc_base.specs.declared.id.Cond.{Cond}
-use Rattle.sc_base.specs.declared.token.Token.{Token}
-use Rattle.sc_subst.specs.declared.hidden.Hidden.{Hidden}
-use Rattle.sc_guarded.specs.Items.{items_at}
-use Rattle.sc_model.specs.Sets.{Sets}
+use Rattle.sc_expand.proofs.Facts.{All-push, append_assoc, get_or_from_slice_get, map-append, slice_get_within, take_more}
+use Rattle.sc_expand.proofs.Terms.{Cond, Hidden, Sets, Token, items_at}
 
 -- without its hide set
 abbrev pub bared : Cond × Hidden → Cond × Token

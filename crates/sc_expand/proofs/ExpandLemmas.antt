@@ -1,40 +1,16 @@
 -- A list as it is given, and what the loop leaves of it, as what it expands to at each
 -- configuration.
 use Rattle.std.proofs.Common.{◌≡◌, ℕ, ◌<◌, ◌++◌, ◌&&◌, not, Bool, true, false, true≢false, List, [], ◌∷◌, All, length, map, take, Ok, Err, refl, sym, ap, subst, ◌∙◌, if◌then◌else◌}
-use Rattle.std.proofs.lemmas.List.Elements.{All-append, All-head, All-tail}
-use Rattle.c11_macros.specs.Expansion.{Expands}
-use Rattle.c11_macros.specs.Runs.{after_these}
-use Rattle.std.proofs.lemmas.List.{map-append}
-use Rattle.c11_macros.specs.Macros.{Macros}
-use Rattle.sc_base.specs.declared.id.Cond.{Cond}
-use Rattle.sc_base.specs.declared.fault.Fault.{Fault}
-use Rattle.sc_base.specs.declared.id.Name.{Name}
-use Rattle.sc_base.specs.declared.token.Token.{Token}
-use Rattle.sc_base.specs.Seen.{IsHeld, seen}
-use Rattle.sc_expand.proofs.Ending.{bared, items-bared}
 use Rattle.sc_expand.proofs.AlikeLemmas.{AreAlike-Keeps, AreAlikeFaults-Keeps, all-back}
+use Rattle.sc_expand.proofs.Ending.{bared, items-bared}
+use Rattle.sc_expand.proofs.Facts.{All-append, All-head, All-tail, IsConfig-Keeps, faults_at-Keeps, faults_at-append, items_at-Keeps, items_at-append, map-append}
 use Rattle.sc_expand.proofs.PuttingOut.{some-Keeps}
 use Rattle.sc_expand.proofs.SettledEnds.{held-closed, settles-closed}
-use Rattle.sc_expand.specs.Closing.{IsClosed, is_several, unclosed_at}
-use Rattle.sc_expand.specs.Open.{closed}
-use Rattle.sc_guarded.proofs.ItemLemmas.{faults_at-append, faults_at-Keeps, items_at-append, items_at-Keeps}
-use Rattle.sc_model.proofs.SetLemmas.{IsConfig-Keeps}
-use Rattle.sc_expand.proofs.TextLemmas.{begun, expanded-fault, expanded-list, seen_hidden-begun, text-defines}
-use Rattle.sc_expand.specs.Alike.{DefineAlike, DefineTextAlike}
-use Rattle.sc_expand.specs.Answers.{IsEmpty, IsExpanded, IsHeldAnswer}
-use Rattle.sc_expand.specs.Running as running
-use Rattle.sc_expand.specs.Running.{IsDone, IsUntouched, PutsOut}
-use Rattle.sc_expand.specs.declared.settling.Settled.{Settled}
-use Rattle.sc_expand.specs.Settling.{IsHeldSettled, IsSettled}
-use Rattle.sc_expand.specs.Seen.{AreHeld, IsHeldToken, failures_at, provenance_of, seen_at, seen_failure, stores}
-use Rattle.sc_guarded.specs.declared.expanded.Expanded.{Expanded}
-use Rattle.sc_guarded.specs.Items.{faults_at, items_at}
-use Rattle.sc_hoist.specs.Alike.{AreAlike, AreAlikeFaults, IsAlike}
-use Rattle.sc_model.specs.Sets.{Sets, IsCond, IsConfig, IsNever, Keeps}
-use Rattle.sc_subst.specs.declared.hidden.Hidden.{Hidden}
-use Rattle.sc_subst.specs.Hides.{set_at}
-use Rattle.sc_subst.specs.Seen.{IsHeldHidden, seen_hidden}
 use Rattle.sc_expand.proofs.TakingParts.{none-found}
+use Rattle.sc_expand.proofs.Terms.{AreAlike, AreAlikeFaults, AreHeld, Cond, DefineAlike, DefineTextAlike, Expanded, Expands, Fault, Hidden, IsAlike, IsClosed, IsCond, IsConfig, IsDone, IsEmpty, IsExpanded, IsHeld, IsHeldAnswer, IsHeldHidden, IsHeldSettled, IsHeldToken, IsNever, IsSettled, IsUntouched, Keeps, Macros, Name, PutsOut, Sets, Settled, Token, after_these, failures_at, faults_at, is_several, items_at, provenance_of, seen, seen_at, seen_failure, seen_hidden, set_at, stores, unclosed_at}
+use Rattle.sc_expand.proofs.TextLemmas.{begun, expanded-fault, expanded-list, seen_hidden-begun, text-defines}
+use Rattle.sc_expand.specs.Open.{closed}
+use Rattle.sc_expand.specs.Running as running
 
 -- ---- before the first turn
 

@@ -1,33 +1,10 @@
 -- A token that is put behind others with white space of its own where it is the first.
 use Rattle.std.proofs.Common.{◌≡◌, ◌&&◌, ◌++◌, ◌∷◌, [], ◌∙◌, ◌<◌, ◌+◌, not, Bool, true, false, ℕ, zero, suc, List, All, take, length, get_or, map, slice_get, Some, ap, sym, refl, subst, if◌then◌else◌}
-use Rattle.std.proofs.lemmas.List.{append_assoc, append-nil, map-append, take_more}
-use Rattle.std.proofs.lemmas.Option.{get_or_from_slice_get, slice_get-map, slice_get_within}
-use Rattle.std.specs.Option.{option_map}
-use Rattle.std.proofs.lemmas.List.Elements.{All-cons, All-head, All-nil, All-push, All-tail, All-take}
-use Rattle.c11_macros.specs.Hidden as model
-use Rattle.c11_macros.specs.Hidden.{HideSet}
-use Rattle.c11_macros.specs.Substitution.{argument, hidden_by, hiding, with_space}
-use Rattle.sc_base.specs.declared.id.Cond.{Cond}
-use Rattle.sc_base.specs.declared.id.Name.{Name}
-use Rattle.sc_base.specs.declared.place.Place.{Place}
 use Rattle.sc_expand.proofs.AlikeFilling.{items_at-alike, lists-Keeps}
 use Rattle.sc_expand.proofs.AlikeLemmas.{AreAlike-Keeps, IsAlike-Keeps, alike-of}
-use Rattle.sc_guarded.proofs.ItemLemmas.{items_at-append, items_at-Keeps, items_at-take}
-use Rattle.sc_guarded.specs.Items.{items_at}
-use Rattle.sc_hoist.specs.Alike.{AreAlike, IsAlike}
-use Rattle.sc_expand.specs.Seen.{AreHeld, IsHeldPartIn, IsHeldToken, Stores, provenance_of, stores}
-use Rattle.sc_expand.specs.Filling.{Adds, AllHeld, expanded_argument, first_spaced_if, part_at, parts_at, spaced}
-use Rattle.sc_model.proofs.SetLemmas.{Denotes-Keeps, IsConfig-Keeps, IsConfig-kept, Keeps-refl, Keeps-trans}
-use Rattle.sc_model.specs.Sets.{Sets, IsConfig, IsCond, Denotes, Keeps}
-use Rattle.sc_model.specs.Growth.{Extends}
-use Rattle.sc_subst.proofs.Later.{hidden_later}
-use Rattle.sc_subst.proofs.TokenLemmas.{spaced_first}
-use Rattle.sc_subst.specs.Parts.{filled_in, first_spaced, seen_part}
-use Rattle.sc_subst.specs.Seen.{IsHeldHidden, seen_hidden}
-use Rattle.sc_subst.specs.declared.hidden.Hidden.{Hidden}
-use Rattle.sc_subst.specs.declared.part.Part.{Part}
+use Rattle.sc_expand.proofs.Facts.{All-cons, All-head, All-nil, All-push, All-tail, All-take, Denotes-Keeps, IsConfig-Keeps, IsConfig-kept, Keeps-refl, Keeps-trans, and-true, append-nil, append_assoc, get_or_from_slice_get, hidden_later, items_at-Keeps, items_at-append, items_at-take, map-append, slice_get-map, slice_get_within, spaced_first, take_more}
+use Rattle.sc_expand.proofs.Terms.{Adds, AllHeld, AreAlike, AreHeld, Cond, Denotes, Extends, Hidden, HiddenToken, HideSet, IsAlike, IsCond, IsConfig, IsHeldHidden, IsHeldPartIn, IsHeldToken, Keeps, Name, Part, Place, Sets, Stores, argument, expanded_argument, filled_in, first_spaced, first_spaced_if, hidden_by, hiding, items_at, option_map, part_at, parts_at, provenance_of, seen_hidden, seen_part, spaced, stores, with_space}
 use Rattle.sc_subst.specs.declared.part.Part.TheVariants as part
-use Rattle.std.proofs.Math.Bool.{and-true}
 
 module _ {T : Type 0} where
   -- some have it first, and others behind a token
@@ -234,7 +211,7 @@ taken_more f g xs made i x y is same so_far =
 -- ---- what a configuration sees of it
 
 -- items under the same conditions, each of which is seen as what h makes of the other
-pub items_seen : (s : Sets) (f g : Hidden → model.Hidden Place) (h : model.Hidden Place → model.Hidden Place) (xs ys : List (Cond × Hidden)) (c : List ℕ)
+pub items_seen : (s : Sets) (f g : Hidden → HiddenToken Place) (h : HiddenToken Place → HiddenToken Place) (xs ys : List (Cond × Hidden)) (c : List ℕ)
     → map (λ (item : Cond × Hidden). item.0) ys ≡ map (λ (item : Cond × Hidden). item.0) xs → map (λ (item : Cond × Hidden). g item.1) ys ≡ map h (map (λ (item : Cond × Hidden). f item.1) xs)
     → map g (items_at s ys c) ≡ map h (map f (items_at s xs c))
 items_seen s f g h [] [] c conds seen = refl
@@ -266,7 +243,7 @@ items_later s st files names hides (x ∷ xs) c held e f =
     by true first rest = ap (λ t. t ∷ map (seen_hidden names hides) (items_at s xs c)) first ∙ ap (λ ts. seen_hidden st.names st.hides x.1 ∷ ts) rest
     by false first rest = rest
 
-seen_argument : (s : Sets) (see : Hidden → model.Hidden Place) (expanded : List (List (Cond × Hidden))) (n : ℕ) (c : List ℕ)
+seen_argument : (s : Sets) (see : Hidden → HiddenToken Place) (expanded : List (List (Cond × Hidden))) (n : ℕ) (c : List ℕ)
     → map see (items_at s (expanded_argument expanded n) c) ≡ argument (map (λ list. map see (items_at s list c)) expanded) n
 seen_argument s see [] n c = refl
 seen_argument s see (list ∷ lists) zero c = refl
@@ -300,7 +277,7 @@ made_held s st files names hides hidden (x ∷ xs) (y ∷ ys) conds seen own hel
     let first : seen_hidden names hides y.1 ≡ hidden_by (provenance_of []) hidden (seen_hidden names hides x.1) = cc in
     let rest_conds : map (λ (item : Cond × Hidden). item.0) ys ≡ map (λ (item : Cond × Hidden). item.0) xs = cc in
     let rest_seen : map (λ (item : Cond × Hidden). seen_hidden names hides item.1) ys ≡ hiding (provenance_of []) hidden (map (λ (item : Cond × Hidden). seen_hidden names hides item.1) xs) = cc in
-    let place : y.1.token.place ≡ x.1.token.place = ap (λ (t : model.Hidden Place). t.place) first in
+    let place : y.1.token.place ≡ x.1.token.place = ap (λ (t : HiddenToken Place). t.place) first in
     let rest = made_held s st files names hides hidden xs ys rest_conds rest_seen (All-tail Own x xs own) (All-tail Held x xs held) (All-tail Made y ys made) in
     record {
       own = All-cons Own y ys (subst (λ (k : Cond). IsCond s k.0) (sym cond) (All-head Own x xs own)) rest.own;

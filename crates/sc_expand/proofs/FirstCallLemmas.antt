@@ -1,22 +1,7 @@
 -- The call of the first token of a list, all tokens of which stand under one condition.
 use Rattle.std.proofs.Common.{◌≡◌, ℕ, zero, suc, ◌+◌, ◌-◌, ◌<◌, ◌≤◌, ◌&&◌, Bool, true, false, List, [], ◌∷◌, ◌++◌, All, codes, length, map, take, get_or, Option, Some, if◌then◌else◌, refl, ap, sym, ◌∙◌, subst, arith}
-use Rattle.std.proofs.lemmas.List.{length-map}
-use Rattle.std.proofs.Math.Bool.{and-false, and-true}
-use Rattle.std.proofs.Math.ListN.{get_or-map}
-use Rattle.std.specs.Option.{option_map}
-use Rattle.c11_macros.specs.Call.{opening, closing, comma, other}
-use Rattle.sc_base.specs.declared.id.Cond.{Cond}
-use Rattle.sc_base.specs.declared.token.Token.{Token}
-use Rattle.sc_base.specs.Seen.{text_at}
-use Rattle.sc_expand.specs.FirstCalls.{IsKnownCall, indexes_from}
-use Rattle.sc_expand.specs.Having.{tokens_in}
-use Rattle.sc_guarded.specs.Items.{items_at}
-use Rattle.sc_hoist.specs.Calls.{CallEnd, IsClosedCall, bare, call_end, call_end_at, call_length, closed, closing_at, closing_step, is_end, opened_end, opened_length, spelled_at}
-use Rattle.sc_hoist.specs.Places.{places_from}
-use Rattle.sc_model.specs.Bytes.{same_bytes}
-use Rattle.sc_model.specs.Sets.{Denotes, IsCond, Sets}
-use Rattle.sc_subst.specs.Groups.{IsParenthesized, group_end, group_step, has_text}
-use Rattle.sc_subst.specs.declared.hidden.Hidden.{Hidden}
+use Rattle.sc_expand.proofs.Facts.{and-false, and-true, get_or-map, length-map}
+use Rattle.sc_expand.proofs.Terms.{CallEnd, Cond, Denotes, Hidden, IsClosedCall, IsCond, IsKnownCall, IsParenthesized, Sets, Token, bare, call_end, call_end_at, call_length, closed, closing, closing_at, closing_step, comma, group_end, group_step, has_text, indexes_from, is_end, items_at, opened_end, opened_length, opening, option_map, other, places_from, same_bytes, spelled_at, text_at, tokens_in}
 
 -- ---- indexes
 

@@ -1,21 +1,8 @@
 -- Configurations with different footprints of one name of a list.
 use Rattle.std.proofs.Common.{◌≡◌, ℕ, ◌+◌, List, [], ◌∷◌, All, AllPairs, Option, Some, Result, drop, map, slice_get, refl, sym, ap, subst, ◌∙◌, arith}
-use Rattle.c11_macros.proofs.OneAnswer.{one_footprint}
-use Rattle.c11_macros.specs.Expansion.{Expands}
-use Rattle.c11_macros.specs.Footprint.{Footprint, footprint}
-use Rattle.c11_macros.specs.Hidden.{Failure, Hidden, Provenance}
-use Rattle.c11_macros.specs.Macros.{Macros}
-use Rattle.c11_macros.specs.Text.{place_alone, unhidden}
-use Rattle.c11_macros.specs.Trace.{Agree}
-use Rattle.sc_base.specs.declared.id.Cond.{Cond}
-use Rattle.sc_base.specs.declared.stop.Stop.{Stop}
-use Rattle.sc_base.specs.declared.stop.Stop.TheVariants.{BranchesFull, ReadFault, OutOfMemory}
-use Rattle.sc_base.specs.declared.token.Token.{Token}
-use Rattle.sc_base.specs.Seen.{seen}
-use Rattle.sc_expand.specs.Footprints.{HasFootprints, IsSameUse, ReplacesAt, StopsAtName, UsesAt, taken_behind}
+use Rattle.sc_expand.proofs.Facts.{one_footprint}
+use Rattle.sc_expand.proofs.Terms.{Agree, BranchesFull, Cond, Expands, Failure, Footprint, HasFootprints, HiddenToken as Hidden, IsSameUse, Macros, OutOfMemory, Provenance, ReadFault, ReplacesAt, Sets, Stop, StopsAtName, Token, UsesAt, footprint, items_at, place_alone, seen, taken_behind, unhidden}
 use Rattle.sc_expand.specs.Stops.{HasConfigs, StopsBy}
-use Rattle.sc_guarded.specs.Items.{items_at}
-use Rattle.sc_model.specs.Sets.{Sets}
 
 module _ {T P : Type 0} {see : T → Hidden P} {provenance : Provenance P} {macros : Macros} {s : Sets} {list : List (Cond × T)} {at : ℕ} {c : List ℕ} where
   abbrev pub print_of : UsesAt see provenance macros s list at c → Footprint

@@ -1,34 +1,13 @@
 -- Footprints with something else kept of the places of tokens.
 use Rattle.std.proofs.Common.{◌≡◌, ℕ, zero, suc, ◌+◌, ◌-◌, true, false, Bool, List, [], ◌∷◌, All, Some, Result, drop, length, map, slice_get, take, refl, sym, ap, subst, ◌∙◌, if◌then◌else◌}
-use Rattle.std.proofs.lemmas.List.{drop-map, length-map}
-use Rattle.std.proofs.lemmas.List.Elements.{All-head, All-tail, All-weaker}
-use Rattle.std.proofs.lemmas.Option.{slice_get-map}
-use Rattle.std.specs.Option.{option_map}
-use Rattle.c11_macros.specs.Expansion.{Case, Expands, case_of}
 use Rattle.c11_macros.specs.Footprint.{Arrives, Footprint, begins, footprint, footprint_from, goes_on}
-use Rattle.c11_macros.specs.Hidden.{Failure, Hidden, Provenance}
-use Rattle.c11_macros.specs.Macros.{Macros}
-use Rattle.c11_macros.specs.Text.{place_alone, unhidden}
-use Rattle.c11_macros.specs.Trace.{Agree}
-use Rattle.sc_base.specs.declared.id.Cond.{Cond}
-use Rattle.sc_base.specs.declared.id.Name.{Name}
-use Rattle.sc_base.specs.declared.stop.Stop.{Stop}
-use Rattle.sc_base.specs.declared.stop.Stop.TheVariants.{BranchesFull, ReadFault, OutOfMemory}
-use Rattle.sc_base.specs.declared.token.Token.{Token}
-use Rattle.sc_base.specs.Seen.{seen, seen_place}
 use Rattle.sc_expand.proofs.Ending.{bared}
+use Rattle.sc_expand.proofs.Facts.{All-head, All-tail, All-weaker, drop-map, length-map, slice_get-map}
 use Rattle.sc_expand.proofs.FootprintLemmas.{pairs-both, print_of, same-use}
 use Rattle.sc_expand.proofs.PlainPlaces.{case_of-moved, expands-moved, moved_case, stays-moved}
+use Rattle.sc_expand.proofs.Terms.{Agree, BranchesFull, Case, Cond, Expands, Failure, HasFootprints, HiddenToken as Hidden, IsKept, IsSameUse, Macros, Name, OutOfMemory, Provenance, ReadFault, ReplacesAt, Sets, Stop, StopsAtName, Token, UsesAt, behind_at, case_of, items_at, moved, moved_answer, option_map, place_alone, provenance_of, seen, seen_hidden, seen_place, set_at, taken_behind, unhidden}
 use Rattle.sc_expand.proofs.TextLemmas.{places-kept, seen_hidden-begun}
-use Rattle.sc_expand.specs.Footprints.{HasFootprints, IsSameUse, ReplacesAt, StopsAtName, UsesAt, taken_behind}
-use Rattle.sc_expand.specs.Having.{behind_at}
-use Rattle.sc_expand.specs.Moved.{IsKept, moved, moved_answer}
-use Rattle.sc_expand.specs.Seen.{provenance_of}
-use Rattle.sc_guarded.specs.Items.{items_at}
-use Rattle.sc_model.specs.Sets.{Sets}
 use Rattle.sc_subst.specs.declared.hidden.Hidden as declared_hidden
-use Rattle.sc_subst.specs.Hides.{set_at}
-use Rattle.sc_subst.specs.Seen.{seen_hidden}
 
 module _ {P Q : Type 0} (f : P → Q) {one : Provenance P} {two : Provenance Q} (kept : IsKept one two f) (macros : Macros) where
   -- the expansion of a list whose first token and others were mapped, with the same footprint

@@ -1,43 +1,16 @@
 -- The calls of branches leave their list one after the other.
 use Rattle.std.proofs.Common.{◌≡◌, ℕ, zero, suc, ◌+◌, ◌<◌, ◌≤◌, Bool, true, false, List, [], ◌∷◌, ◌++◌, All, map, take, drop, length, get_or, refl, sym, ap, subst, ◌∙◌, arith, append-nil, if◌then◌else◌}
-use Rattle.std.proofs.lemmas.List.{get_or-take, length-append, length-take, take_more}
-use Rattle.std.proofs.lemmas.List.Elements.{All-cons, All-nil}
-use Rattle.c11_macros.specs.Expansion.{is_looked_up}
-use Rattle.c11_macros.specs.Hidden as model
-use Rattle.c11_macros.specs.Hidden.{Provenance}
-use Rattle.c11_macros.specs.Macros.{Definition, Macros}
-use Rattle.sc_base.specs.declared.id.Cond.{Cond}
-use Rattle.sc_base.specs.declared.place.Place.{Place}
 use Rattle.sc_expand.proofs.AlikeGathering.{each-behind, places-same}
 use Rattle.sc_expand.proofs.AlikeLemmas.{IsAlike-Keeps}
 use Rattle.sc_expand.proofs.BeginningLemmas.{same_conds}
+use Rattle.sc_expand.proofs.Facts.{All-cons, All-nil, IsConfig-Keeps, IsConfig-kept, form_later, get_or-take, hidden_later, items_later, length-append, length-take, lists_at-append, take_more, text_later}
 use Rattle.sc_expand.proofs.GatherPlaces.{spelled-behind}
 use Rattle.sc_expand.proofs.KeepingLists.{lists-same, lists-then}
 use Rattle.sc_expand.proofs.LastLemmas.{last-each, last-earlier, last-later}
 use Rattle.sc_expand.proofs.TakingSteps.{seen-first}
-use Rattle.sc_expand.specs.Called.{AreGathered, IsBranch, IsCalled, IsMacro}
-use Rattle.sc_expand.specs.declared.expansion.Expansion.{Expansion}
-use Rattle.sc_expand.specs.Gather.{Gathers}
-use Rattle.sc_expand.specs.Having.{HasLast, has_each, tokens_in}
-use Rattle.sc_expand.specs.Machine.{at}
-use Rattle.sc_expand.specs.Seen.{Grows, Stores, seen_at}
-use Rattle.sc_expand.specs.Taking.{has_first}
-use Rattle.sc_expand.specs.Turn.{At}
-use Rattle.sc_hoist.proofs.BranchLemmas.{lists_at-append}
-use Rattle.sc_hoist.specs.Alike.{IsAlike}
-use Rattle.sc_hoist.specs.Branches.{lists_at}
-use Rattle.sc_hoist.specs.Calls.{call_end, call_length, spelled_at}
-use Rattle.sc_hoist.specs.declared.branch.Branch.{Branch}
-use Rattle.sc_hoist.specs.Places.{places_from}
+use Rattle.sc_expand.proofs.Terms.{AreGathered, At, Branch, Cond, Definition, Expansion, Gathers, Grows, HasLast, Hidden, HiddenToken, IsAlike, IsBranch, IsCalled, IsCond, IsConfig, IsHeldForm, IsHeldHidden, IsHeldItem, IsMacro, Macros, Place, Provenance, Sets, Stores, at, call_end, call_length, has_each, has_first, is_looked_up, lists_at, places_from, seen_at, seen_hidden, spelled_at, tokens_in}
 use Rattle.sc_macro.specs.declared.definition.Item as declared_item
 use Rattle.sc_macro.specs.declared.form.Form as declared_form
-use Rattle.sc_macro.specs.Seen.{IsHeldForm, IsHeldItem}
-use Rattle.sc_model.proofs.SetLemmas.{IsConfig-Keeps, IsConfig-kept}
-use Rattle.sc_model.specs.Sets.{Sets, IsCond, IsConfig}
-use Rattle.sc_subst.proofs.Later.{hidden_later, text_later}
-use Rattle.sc_subst.proofs.Turns.{form_later, items_later}
-use Rattle.sc_subst.specs.declared.hidden.Hidden.{Hidden}
-use Rattle.sc_subst.specs.Seen.{IsHeldHidden, seen_hidden}
 
 -- ---- lists of branches
 
@@ -77,7 +50,7 @@ first-of-each s t [] (y ∷ ys) c is = absurd (cc)
 first-of-each s t (x ∷ xs) [] c is = absurd (cc)
 first-of-each s t (x ∷ xs) (y ∷ ys) c is = cc
 
-seen-whole : (st : Stores) (list : List (Cond × Hidden)) (c : List ℕ) → has_first st.sets list c ≡ true → (t : model.Hidden Place) × (seen_at st list c ≡ t ∷ seen_at st (drop 1 list) c)
+seen-whole : (st : Stores) (list : List (Cond × Hidden)) (c : List ℕ) → has_first st.sets list c ≡ true → (t : HiddenToken Place) × (seen_at st list c ≡ t ∷ seen_at st (drop 1 list) c)
 seen-whole st [] c has = absurd (cc)
 seen-whole st (x ∷ xs) c has =
     (seen_hidden st.names st.hides x.1, seen-first st x xs c ∙ ap (λ b. if b then seen_hidden st.names st.hides x.1 ∷ seen_at st xs c else seen_at st xs c) has)
@@ -89,7 +62,7 @@ module _ (old new : Stores) (e0 e1 : Expansion) (c : List ℕ) (same : at new e1
       let one = seen-whole new e1.top.work c (first-of-each new.sets old.sets e1.top.work e0.top.work c each ∙ has) in
       let both : one.0 ∷ seen_at new (drop 1 e1.top.work) c ≡ two.0 ∷ seen_at old (drop 1 e0.top.work) c = sym one.1 ∙ (ap (λ (a : At). a.view.work) same ∙ two.1) in
       let rest : seen_at new (drop 1 e1.top.work) c ≡ seen_at old (drop 1 e0.top.work) c = cc in
-      spelled-behind new.names new.sets c new.hides e1.top.work ∙ (ap (map (λ (t : model.Hidden Place). t.spelling)) rest ∙ sym (spelled-behind old.names old.sets c old.hides e0.top.work))
+      spelled-behind new.names new.sets c new.hides e1.top.work ∙ (ap (map (λ (t : HiddenToken Place). t.spelling)) rest ∙ sym (spelled-behind old.names old.sets c old.hides e0.top.work))
 
   pub called-later : (places : List ℕ) → IsCalled old e0 places c → IsCalled new e1 places c
   called-later places is =
@@ -156,7 +129,7 @@ module _ {old mid : Stores} (grows : Grows old mid) (form : declared_form.Form) 
         all-lists : (had : Bool) → old.sets.has b.cond.0 c ≡ had → lists_at old.sets (take (i + 1) bs) c ≡ lists_at old.sets (take i bs) c ++ (if had then b.places.items ∷ [] else [])
         all-lists had is = lists_at-take old.sets bs i b c within is_next ∙ ap (λ t. lists_at old.sets (take i bs) c ++ (if t then b.places.items ∷ [] else [])) is
 
-        gathers-next : (had : Bool) → old.sets.has b.cond.0 c ≡ had → (place : List ℕ) (provenance : Provenance Place) (macros : Macros) (d : Definition) (rest : List (model.Hidden Place))
+        gathers-next : (had : Bool) → old.sets.has b.cond.0 c ≡ had → (place : List ℕ) (provenance : Provenance Place) (macros : Macros) (d : Definition) (rest : List (HiddenToken Place))
             → lists_at old.sets (take (i + 1) bs) c ≡ place ∷ [] → (at old e0 c).view.work ≡ seen_hidden old.names old.hides head ∷ rest → IsMacro old provenance macros form items head d
             → Gathers provenance macros (seen_hidden old.names old.hides head) rest (at old e0 c) (at st e2 c) false
         gathers-next true has place provenance macros d rest lists work is =

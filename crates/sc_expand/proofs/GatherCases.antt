@@ -1,19 +1,10 @@
 -- How a call goes on, as sc_hoist tells it, and what is to be done at its name.
 use Rattle.std.proofs.Common.{◌≡◌, ℕ, zero, suc, ◌&&◌, Bool, true, false, List, [], ◌∷◌, ◌++◌, map, take, drop, length, codes, Option, Some, None, refl, sym, ap, subst, ◌∙◌, if◌then◌else◌, is_some}
-use Rattle.std.specs.List.{slice_get}
 use Rattle.c11_macros.specs.Call.{Call, arguments_for, call_of}
-use Rattle.c11_macros.specs.Expansion.{case_of, fitted_case, is_looked_up, stays, unclosed}
-use Rattle.c11_macros.specs.Hidden.{Hidden}
-use Rattle.c11_macros.specs.Defines.{is_function_like}
-use Rattle.c11_macros.specs.Macros.{Definition, Macros, Rest, function_like}
-use Rattle.c11_macros.specs.Runs.{is_function_named, is_last_name}
 use Rattle.sc_expand.proofs.BeginningLemmas.{call_is}
 use Rattle.sc_expand.proofs.PlainCases.{case-alone, case-bare, case-open}
-use Rattle.sc_expand.specs.Arguments.{parted}
-use Rattle.sc_expand.specs.Called.{EndsBefore, IsCall}
+use Rattle.sc_expand.proofs.Terms.{ClosesAt, Definition, EndsBefore, HiddenToken as Hidden, IsCall, Macros, Rest, alone, bare, call_end, call_length, case_of, closed, closing_at, fitted_case, function_like, is_function_like, is_function_named, is_last_name, is_looked_up, opened_end, opened_length, parted, same_bytes, slice_get, stays, still, unclosed}
 use Rattle.sc_hoist.proofs.CallLemmas.{closes_at}
-use Rattle.sc_hoist.specs.Calls.{ClosesAt, alone, bare, call_end, call_length, closed, closing_at, opened_end, opened_length, still}
-use Rattle.sc_model.specs.Bytes.{same_bytes}
 
 module _ {P : Type 0} where
   abbrev pub spellings : List (Hidden P) → List (List ℕ)

@@ -1,57 +1,23 @@
 -- What taking the calls of a name out comes to, by how each configuration's call goes on.
 use Rattle.std.proofs.Common.{◌≡◌, ℕ, ◌<◌, not, ◌&&◌, ◌||◌, Bool, true, false, List, [], ◌∷◌, All, get_or, length, map, Some, IsTrue, refl, sym, ap, subst, ◌∙◌, true≢false, arith, if◌then◌else◌}
-use Rattle.c11_macros.specs.Defines.{is_function_like}
-use Rattle.c11_macros.specs.Expansion.{case_of, is_looked_up, unclosed}
-use Rattle.c11_macros.specs.Hidden as model
-use Rattle.c11_macros.specs.Hidden.{Failure, Provenance, failure_at}
-use Rattle.c11_macros.specs.Macros.{Definition, Macros, list_at}
-use Rattle.sc_base.specs.declared.id.Cond.{Cond}
-use Rattle.sc_base.specs.declared.place.Place.{Place}
-use Rattle.sc_base.specs.declared.stop.Stop.{Stop}
-use Rattle.sc_base.specs.declared.stop.Stop.TheVariants.{BranchesFull, ReadFault, OutOfMemory}
-use Rattle.std.proofs.lemmas.Bool.{and_parts}
-use Rattle.std.proofs.Math.Bool.{and-false}
 use Rattle.sc_expand.proofs.AlikeGathering.{each-end, each-same-call}
+use Rattle.sc_expand.proofs.Facts.{Extends-refl, IsConfig-kept, and-false, and_parts, form_later, hidden_later, text_later}
 use Rattle.sc_expand.proofs.GatherBranches.{first-of-each}
 use Rattle.sc_expand.proofs.GatherCases.{case-still, case-uncalled-alone, case-uncalled-bare, last-alone, not-last, spellings}
 use Rattle.sc_expand.proofs.GatherPlaces.{spelled-behind}
 use Rattle.sc_expand.proofs.GatherTaking.{function-form, rest-is}
+use Rattle.sc_expand.proofs.TakingLemmas.{grown-list}
 use Rattle.sc_expand.proofs.TakingSteps.{state-scanning}
+use Rattle.sc_expand.proofs.Terms.{AreGathered, AreHeld, At, Branch, BranchesFull, CallEnd, Cond, Definition, Denotes, EndsBy, Expansion, Extends, Failure, Gathers, Grows, Hidden, HiddenToken, IsConfig, IsHeldDefinition, IsHeldHidden, IsHeldItem, IsMacro, IsSameCall, Keeps, Macros, Name, OutOfMemory, Place, Provenance, ReadFault, Sets, Stop, StopsAt, Stores, UnterminatedCall, Waits, alone, at, bare, call_end, call_end_at, call_places, case_of, closed, failure_at, has_each, has_first, held_up, is_end, is_function_like, is_left, is_looked_up, left_end, list_at, seen_at, seen_definition, seen_hidden, seen_item, seen_replacement, state_of, still, stores, text_of, tokens_in, unclosed, with_end}
 use Rattle.sc_expand.proofs.WorkListLemmas.{has_each-Keeps}
-use Rattle.sc_expand.specs.Alike.{IsSameCall}
-use Rattle.sc_expand.specs.Called.{AreGathered, IsMacro}
-use Rattle.sc_expand.specs.declared.expansion.Expansion.{Expansion}
 use Rattle.sc_expand.specs.Gather as gathers
-use Rattle.sc_expand.specs.Gather.{Gathers}
-use Rattle.sc_expand.specs.Having.{has_each, tokens_in}
-use Rattle.sc_expand.specs.Machine.{at}
 use Rattle.sc_expand.specs.Open as waiting
-use Rattle.sc_expand.specs.Open.{Waits}
 use Rattle.sc_expand.specs.Plain.{Fails, open_call}
-use Rattle.sc_expand.specs.Refusing.{is_left, left_end}
-use Rattle.sc_expand.specs.Seen.{AreHeld, Grows, Stores, seen_at, state_of, stores}
-use Rattle.sc_expand.specs.CallStops.{StopsAt}
-use Rattle.sc_expand.specs.Taking.{has_first}
 use Rattle.sc_expand.specs.Turn as turn
-use Rattle.sc_expand.specs.Turn.{At, EndsBy, held_up, with_end}
 use Rattle.sc_hoist.specs.Branches.{Refuses, lists_at}
-use Rattle.sc_hoist.specs.Calls.{CallEnd, alone, bare, call_end, call_end_at, call_places, closed, is_end, still}
-use Rattle.sc_hoist.specs.declared.branch.Branch.{Branch}
+use Rattle.sc_macro.specs.declared.definition.Definition as declared_definition
 use Rattle.sc_macro.specs.declared.definition.Item as declared_item
 use Rattle.sc_macro.specs.declared.form.Form as declared_form
-use Rattle.sc_base.proofs.Growth.{Extends-refl}
-use Rattle.sc_base.specs.declared.id.Name.{Name}
-use Rattle.sc_expand.proofs.TakingLemmas.{grown-list}
-use Rattle.sc_macro.specs.declared.definition.Definition as declared_definition
-use Rattle.sc_macro.specs.Seen.{IsHeldDefinition, IsHeldItem, seen_definition, seen_item, seen_replacement, text_of}
-use Rattle.sc_model.specs.Growth.{Extends}
-use Rattle.sc_subst.proofs.Turns.{form_later}
-use Rattle.sc_model.specs.declared.cause.Cause.TheVariants.{UnterminatedCall}
-use Rattle.sc_model.proofs.SetLemmas.{IsConfig-kept}
-use Rattle.sc_model.specs.Sets.{Denotes, IsConfig, Keeps, Sets}
-use Rattle.sc_subst.proofs.Later.{hidden_later, text_later}
-use Rattle.sc_subst.specs.declared.hidden.Hidden.{Hidden}
-use Rattle.sc_subst.specs.Seen.{IsHeldHidden, seen_hidden}
 
 pub end-is : (one two : CallEnd) → is_end one two ≡ true → two ≡ one
 end-is closed closed is = refl
@@ -146,10 +112,10 @@ module _ (old mid now new : Stores) (e0 e1 e2 : Expansion) (branches : List Bran
       by true opens = (let gone = ap (λ (a : At). a.live) (untaken true alone is refl).0 ∙ is.dead (is.refused_is ∙ ap (λ b. b && true) opens) in absurd (true≢false (sym live ∙ gone)))
       by false closes = first-of-each new.sets old.sets e2.top.work e0.top.work c (untaken true alone is refl).1 ∙ (stands ∙ sym (is.uncalled_is ∙ ap (λ b. not b && true) closes))
 
-  module _ (provenance : Provenance Place) (macros : Macros) (d : Definition) (rest : List (model.Hidden Place)) (work : (at old e0 c).view.work ≡ seen_hidden old.names old.hides head ∷ rest) (calls : (at old e0 c).view.calls ≡ [])
+  module _ (provenance : Provenance Place) (macros : Macros) (d : Definition) (rest : List (HiddenToken Place)) (work : (at old e0 c).view.work ≡ seen_hidden old.names old.hides head ∷ rest) (calls : (at old e0 c).view.calls ≡ [])
       (same : seen_hidden mid.names mid.hides head ≡ seen_hidden old.names old.hides head) (looked : is_looked_up (seen_hidden old.names old.hides head) ≡ true)
       (defined : macros (seen_hidden old.names old.hides head).spelling ≡ Some d) (function : IsTrue (is_function_like d.form)) (macro : IsMacro mid provenance macros form items head d) (opens : (at old e0 c).whole ≡ whole) where
-    abbrev t : model.Hidden Place
+    abbrev t : HiddenToken Place
     t = seen_hidden old.names old.hides head
 
     -- what follows the list, or nothing, decides
@@ -199,7 +165,7 @@ module _ (old mid now new : Stores) (e0 e1 e2 : Expansion) (branches : List Bran
             (gathers.uncalled case (λ whole. absurd (true≢false (sym whole ∙ (opens ∙ b_is)))) ((untaken true alone is refl).0 ∙ is.other (is.refused_is ∙ ap (λ b. b && true) b_is)))
 
 -- how the call goes on, by what follows the name
-pub end-behind : (st : Stores) (list : List (Cond × Hidden)) (c : List ℕ) (t : model.Hidden Place) (rest : List (model.Hidden Place)) → has_first st.sets list c ≡ true → seen_at st list c ≡ t ∷ rest
+pub end-behind : (st : Stores) (list : List (Cond × Hidden)) (c : List ℕ) (t : HiddenToken Place) (rest : List (HiddenToken Place)) → has_first st.sets list c ≡ true → seen_at st list c ≡ t ∷ rest
     → call_end (spellings rest) ≡ call_end_at st.sets st.names (tokens_in list) 0 c
 end-behind st list c t rest has is = ap (λ l. call_end (spellings l)) (rest-is st list c t rest has is) ∙ ap call_end (sym (spelled-behind st.names st.sets c st.hides list))
 

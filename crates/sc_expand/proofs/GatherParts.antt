@@ -1,50 +1,21 @@
 -- The parts of the configurations of a name, by how its call goes on.
 use Rattle.std.proofs.Common.{◌≡◌, ℕ, ◌≤◌, not, ◌&&◌, ◌||◌, Bool, true, false, List, [], ◌∷◌, All, length, get_or, refl, sym, ap, subst, ◌<◌, true≢false, ◌∙◌, arith, if◌then◌else◌, map, IsTrue}
-use Rattle.std.proofs.lemmas.Bool.{and_parts}
-use Rattle.std.proofs.Math.Bool.{and-false}
-use Rattle.c11_macros.specs.Defines.{is_function_like}
-use Rattle.c11_macros.specs.Hidden.{Failure, failure_at}
-use Rattle.c11_macros.specs.Macros.{list_at}
-use Rattle.sc_base.proofs.Growth.{Extends-refl}
-use Rattle.sc_base.specs.declared.place.Place.{Place}
 use Rattle.sc_expand.proofs.AlikeGathering.{each-end, each-same-call}
 use Rattle.sc_expand.proofs.AlikeLemmas.{IsAlike-Keeps, IsAlikeIn-Keeps}
+use Rattle.sc_expand.proofs.Facts.{Extends-refl, IsConfig-Keeps, IsConfig-kept, Keeps-trans, and-false, and_parts, hidden_later, lists_at-Keeps}
+use Rattle.sc_expand.proofs.FirstCallLemmas.{and_known}
 use Rattle.sc_expand.proofs.GatherBranches.{called-later, spelled-same}
 use Rattle.sc_expand.proofs.GatherEnds.{Ending, end-behind, end-is, ended-first, ended-gathers, ended-other, macro-is}
 use Rattle.sc_expand.proofs.LastLemmas.{last-earlier, last-later}
 use Rattle.sc_expand.proofs.SeenLemmas.{Grows-trans, IsHeldExpansion-Grows, at-Grows, view_at-Grows}
 use Rattle.sc_expand.proofs.TakingLemmas.{gone, stays-there}
 use Rattle.sc_expand.proofs.TakingSteps.{has_first-Keeps}
+use Rattle.sc_expand.proofs.Terms.{AreBranches, AreGathered, At, Branch, CallEnd, Denotes, Expansion, Extends, Failure, Grows, Hidden, IsAlike, IsAlikeIn, IsBranch, IsCalled, IsConfig, IsGathered, IsHeldDefinition, IsHeldExpansion, IsHeldHidden, IsHeldItem, IsSameCall, Keeps, LeavesOpen, Place, Refusals, Sets, Span, Stores, UnterminatedCall, alone, at, bare, call_end, call_end_at, call_places, closed, ends_at, failure_at, has_first, is_end, is_function_like, is_left, is_whole, left_end, list_at, lists_at, provenance_of, seen_definition, seen_form, seen_hidden, seen_item, seen_place, seen_replacement, still, stores, tokens_in, with_end}
 use Rattle.sc_expand.proofs.WorkListLemmas.{has_each-Keeps}
-use Rattle.sc_expand.specs.Called.{AreGathered, IsBranch, IsCalled, IsGathered}
-use Rattle.sc_expand.specs.Alike.{IsAlikeIn, IsSameCall, Span}
-use Rattle.sc_expand.specs.Having.{tokens_in}
-use Rattle.sc_expand.specs.declared.expansion.Expansion.{Expansion}
-use Rattle.sc_expand.specs.declared.refusals.Refusals.{Refusals}
-use Rattle.sc_expand.specs.Machine.{IsHeldExpansion, at, ends_at, is_whole}
-use Rattle.sc_expand.specs.Refusing.{LeavesOpen, is_left, left_end}
-use Rattle.sc_expand.specs.Seen.{Grows, Stores, provenance_of, stores}
-use Rattle.sc_expand.specs.Taking.{has_first}
-use Rattle.sc_expand.specs.Turn.{At, with_end}
-use Rattle.sc_hoist.proofs.BranchLemmas.{lists_at-Keeps}
 use Rattle.sc_hoist.proofs.PartLemmas.{one_list}
-use Rattle.sc_hoist.specs.Alike.{IsAlike}
-use Rattle.sc_hoist.specs.Branches.{AreBranches, lists_at}
 use Rattle.sc_hoist.specs.Leaves.{Agree}
-use Rattle.sc_hoist.specs.Calls.{CallEnd, alone, bare, call_end, call_end_at, call_places, closed, is_end, still}
-use Rattle.sc_hoist.specs.declared.branch.Branch.{Branch}
-use Rattle.sc_base.specs.Seen.{seen_place}
 use Rattle.sc_macro.specs.declared.definition.Definition as declared_definition
 use Rattle.sc_macro.specs.declared.definition.Item as declared_item
-use Rattle.sc_macro.specs.Seen.{IsHeldDefinition, IsHeldItem, seen_definition, seen_form, seen_item, seen_replacement}
-use Rattle.sc_model.specs.declared.cause.Cause.TheVariants.{UnterminatedCall}
-use Rattle.sc_subst.proofs.Later.{hidden_later}
-use Rattle.sc_subst.specs.declared.hidden.Hidden.{Hidden}
-use Rattle.sc_subst.specs.Seen.{IsHeldHidden, seen_hidden}
-use Rattle.sc_model.proofs.SetLemmas.{IsConfig-Keeps, IsConfig-kept, Keeps-trans}
-use Rattle.sc_model.specs.Growth.{Extends}
-use Rattle.sc_model.specs.Sets.{Denotes, IsConfig, Keeps, Sets}
-use Rattle.sc_expand.proofs.FirstCallLemmas.{and_known}
 
 -- the configurations were parted, and those of a call that is not closed were refused
 pub record Parted (s0 s1 s2 s3 : Sets) (names later : List (List ℕ)) (files : ℕ) (e : Expansion) (r : Refusals) (cond closes opens bares alones uncalled : ℕ) (branches : List Branch) (failure : Failure Place) : Type 0 where

@@ -1,30 +1,9 @@
 -- The tokens of a call at the places of a branch.
 use Rattle.std.proofs.Common.{◌≡◌, ℕ, zero, suc, ◌+◌, ◌-◌, ◌<◌, ◌≤◌, Bool, true, false, List, [], ◌∷◌, ◌++◌, All, map, take, drop, length, get_or, refl, sym, ap, subst, ◌∙◌, arith, ◌⊎◌, inl, inr, Some, slice_get, if◌then◌else◌}
-use Rattle.std.proofs.lemmas.List.{get_or-take, length-append, length-drop, length-map, get_or_default}
-use Rattle.std.proofs.lemmas.List.Elements.{All-cons, All-head, All-nil, All-tail, All-take}
-use Rattle.std.proofs.lemmas.Bool.{cases_lt}
-use Rattle.std.proofs.lemmas.Option.{get_or_from_slice_get, slice_get_within}
-use Rattle.std.proofs.lemmas.Simd.{map-map}
-use Rattle.c11_macros.specs.Hidden as model
-use Rattle.sc_base.specs.declared.id.Cond.{Cond}
-use Rattle.sc_base.specs.declared.place.Place.{Place}
-use Rattle.sc_base.specs.declared.token.Token.{Token}
-use Rattle.sc_base.specs.Seen.{text_at}
 use Rattle.sc_expand.proofs.BeginningLemmas.{behind_place, call_tokens, map_of_take, same_conds}
+use Rattle.sc_expand.proofs.Facts.{All-cons, All-head, All-nil, All-tail, All-take, cases_lt, get_or-take, get_or_default, get_or_from_slice_get, length-append, length-drop, length-map, map-map, slice_get_within}
 use Rattle.sc_expand.proofs.GatherCases.{Closed, closed-call, spellings}
-use Rattle.sc_expand.specs.Beginning.{token_at}
-use Rattle.sc_expand.specs.Called.{IsBranch, IsCall, IsCalled}
-use Rattle.sc_expand.specs.Having.{tokens_in}
-use Rattle.sc_expand.specs.declared.expansion.Expansion.{Expansion}
-use Rattle.sc_expand.specs.Seen.{Stores, seen_at, stores}
-use Rattle.sc_expand.specs.Taking.{has_first}
-use Rattle.sc_guarded.specs.Items.{items_at}
-use Rattle.sc_hoist.specs.Calls.{call_end, call_length, spelled_at}
-use Rattle.sc_hoist.specs.declared.branch.Branch.{Branch}
-use Rattle.sc_hoist.specs.Places.{places_from}
-use Rattle.sc_model.specs.Sets.{Sets, IsConfig, IsNever}
-use Rattle.sc_subst.specs.declared.hidden.Hidden.{Hidden}
-use Rattle.sc_subst.specs.Seen.{seen_hidden}
+use Rattle.sc_expand.proofs.Terms.{Branch, Cond, Expansion, Hidden, HiddenToken, IsBranch, IsCall, IsCalled, IsConfig, IsNever, Place, Sets, Stores, Token, call_end, call_length, has_first, items_at, places_from, seen_at, seen_hidden, spelled_at, stores, text_at, token_at, tokens_in}
 
 -- numbers that compare so at each configuration of a condition that has one compare so
 pub somewhere : (s : Sets) (cond : ℕ) → (IsNever s cond → ⊥) → (a b : ℕ) → ((c : List ℕ) → IsConfig s.arities c → s.has cond c ≡ true → a < b) → a < b
@@ -119,9 +98,9 @@ module _ (names : List (List ℕ)) (s : Sets) (c : List ℕ) where
 
 -- the call at the places: what stands between its parentheses, the closing one, and what follows
 pub record Placed (st : Stores) (list : List (Cond × Hidden)) (places c : List ℕ) : Type 0 where
-  pub between : List (model.Hidden Place)
-  pub close : model.Hidden Place
-  pub after : List (model.Hidden Place)
+  pub between : List (HiddenToken Place)
+  pub close : HiddenToken Place
+  pub after : List (HiddenToken Place)
   pub call : IsCall (seen_at st (drop 1 list) c) between close after
   pub tokens : (other : Cond × Hidden) → map (λ p. seen_hidden st.names st.hides (token_at list other p)) places
       ≡ seen_hidden st.names st.hides (token_at list other 0) ∷ call.opener ∷ (between ++ close ∷ [])
@@ -136,10 +115,10 @@ module _ (st : Stores) (e : Expansion) (places c : List ℕ) (called : IsCalled 
   abbrev work : List (Cond × Hidden)
   work = e.top.work
 
-  abbrev see : Hidden → model.Hidden Place
+  abbrev see : Hidden → HiddenToken Place
   see = seen_hidden st.names st.hides
 
-  abbrev behind : List (model.Hidden Place)
+  abbrev behind : List (HiddenToken Place)
   behind = seen_at st (drop 1 work) c
 
   abbrev count : ℕ
@@ -226,14 +205,14 @@ module _ (st : Stores) (e : Expansion) (branch : Branch) (is : IsBranch st e bra
 -- ---- the call that is taken out
 
 -- it is taken by the index of its last place, and of what stands between the second place and that
-pub call-taken : (st : Stores) (list : List (Cond × Hidden)) (after : List (model.Hidden Place)) (places c : List ℕ) (between : List Hidden) (item : Cond × Hidden) (end count : ℕ)
+pub call-taken : (st : Stores) (list : List (Cond × Hidden)) (after : List (HiddenToken Place)) (places c : List ℕ) (between : List Hidden) (item : Cond × Hidden) (end count : ℕ)
     → Placed st list places c → count ≡ length places → end ≡ get_or places (count - 1) end
     → ((other : Cond × Hidden) → between ≡ map (token_at list other) (take (count - 1 - 2) (drop 2 places))) → slice_get list end ≡ Some item
     → after ≡ seen_at st (drop (end + 1) list) c
     → IsCall (seen_at st (drop 1 list) c) (map (seen_hidden st.names st.hides) between) (seen_hidden st.names st.hides item.1) after
 call-taken st list after places c between item end count is counted at tokens found follows =
     let see = seen_hidden st.names st.hides in
-    let f : ℕ → model.Hidden Place = λ p. see (token_at list item p) in
+    let f : ℕ → HiddenToken Place = λ p. see (token_at list item p) in
     let n = length places in
     let low : n - 1 < length places = omega (arith, is.long) in
     let mid = middle f places (see (token_at list item 0)) is.call.opener is.between is.close end (is.tokens item) in
@@ -242,7 +221,7 @@ call-taken st list after places c between item end count is counted at tokens fo
     ∙ (map-map see (token_at list item) (take (n - 1 - 2) (drop 2 places)) ∙ mid.between) in
     let two : see item.1 ≡ is.close = ap (λ (x : Cond × Hidden). see x.1) (sym (get_or_from_slice_get list end item item found)) ∙ (ap f last ∙ mid.last) in
     let three : after ≡ is.after = follows ∙ (ap (λ k. seen_at st (drop (k + 1) list) c) (last ∙ get_or_default places (n - 1) end 0 low) ∙ is.behind) in
-    let P : List (model.Hidden Place) → model.Hidden Place → List (model.Hidden Place) → Type 0 = λ b x a. IsCall (seen_at st (drop 1 list) c) b x a in
+    let P : List (HiddenToken Place) → HiddenToken Place → List (HiddenToken Place) → Type 0 = λ b x a. IsCall (seen_at st (drop 1 list) c) b x a in
     subst (λ b. P b (see item.1) after) (sym one) (subst (λ x. P is.between x after) (sym two) (subst (λ a. P is.between is.close a) (sym three) is.call))
 
 pub held-at : (P : Hidden → Type 0) (list : List (Cond × Hidden)) (k : ℕ) (x : Cond × Hidden) → All (λ (item : Cond × Hidden). P item.1) list → slice_get list k ≡ Some x → P x.1

@@ -1,26 +1,12 @@
 -- What a call that begins to wait, or is refused, changes at a configuration.
 use Rattle.std.proofs.Common.{◌≡◌, ◌<◌, ℕ, Bool, true, false, List, [], ◌∷◌, ◌++◌, All, sym, ap, subst, ◌∙◌, append-nil, Vec, Global, if◌then◌else◌}
-use Rattle.std.proofs.lemmas.List.Elements.{All-append, All-cons, All-nil}
-use Rattle.c11_macros.specs.Hidden.{Failure}
-use Rattle.sc_base.specs.declared.id.Name.{Name}
-use Rattle.sc_base.specs.declared.place.Place.{Place}
 use Rattle.sc_expand.proofs.AlikeLemmas.{IsAlikeIn-Keeps}
+use Rattle.sc_expand.proofs.Facts.{All-append, All-cons, All-nil, IsConfig-Keeps}
 use Rattle.sc_expand.proofs.MachineCalls.{calls_at-append}
 use Rattle.sc_expand.proofs.SeenLemmas.{IsHeldExpansion-Grows, at-Grows, view_at-Grows}
 use Rattle.sc_expand.proofs.TakingLemmas.{gone, stays-there}
-use Rattle.sc_expand.specs.Alike.{IsAlikeIn, Span}
-use Rattle.sc_expand.specs.declared.call.Call.{Call}
-use Rattle.sc_expand.specs.declared.expansion.Expansion.{Expansion}
-use Rattle.sc_expand.specs.declared.refusals.Refusals.{Refusals}
-use Rattle.sc_expand.specs.Machine.{IsHeldExpansion, at, ends_at, is_whole, with_call}
-use Rattle.sc_expand.specs.Plain.{Waiting}
-use Rattle.sc_expand.specs.Refusing.{Refuses}
-use Rattle.sc_base.specs.declared.id.Cond.{Cond}
+use Rattle.sc_expand.proofs.Terms.{At, Call, Cond, Expansion, Failure, Grows, IsAlikeIn, IsConfig, IsHeldCall, IsHeldExpansion, IsHeldFrame, Name, Place, Refusals, Refuses, Span, Stores, Waiting, at, calls_at, ends_at, failures_at, is_whole, waiting_at, with_call}
 use Rattle.sc_expand.specs.Turn.{fails, with_end}
-use Rattle.sc_expand.specs.Seen.{Grows, IsHeldCall, IsHeldFrame, Stores, calls_at, failures_at, waiting_at}
-use Rattle.sc_expand.specs.Turn.{At}
-use Rattle.sc_model.proofs.SetLemmas.{IsConfig-Keeps}
-use Rattle.sc_model.specs.Sets.{IsConfig}
 
 module _ {old new : Stores} (grows : Grows old new) {files : ℕ} (e : Expansion) (held : IsHeldExpansion old files e) where
   -- ---- one call more

@@ -1,56 +1,23 @@
 -- The call of a branch is taken out of its list, and begins to wait or is refused.
 use Rattle.std.proofs.Common.{◌≡◌, ℕ, Bool, true, false, List, [], ◌∷◌, ◌++◌, All, map, drop, length, Option, Some, None, IsTrue, slice_get, refl, sym, ap, subst, ◌∙◌, if◌then◌else◌, is_some}
-use Rattle.std.proofs.lemmas.List.Elements.{All-head, All-tail}
-use Rattle.c11_macros.specs.Call.{arguments_for}
-use Rattle.c11_macros.specs.Defines.{is_function_like}
-use Rattle.c11_macros.specs.Expansion.{called, case_of, fitted_case, misfit}
-use Rattle.c11_macros.specs.Hidden as model
-use Rattle.c11_macros.specs.Hidden.{Failure, Provenance, failure_at}
-use Rattle.c11_macros.specs.Macros.{Definition, Form, Macros, Rest, function_like, object_like}
-use Rattle.sc_base.proofs.Growth.{Extends-refl, Extends-trans}
-use Rattle.sc_base.specs.declared.id.Cond.{Cond}
-use Rattle.sc_base.specs.declared.id.Name.{Name}
-use Rattle.sc_base.specs.declared.place.Place.{Place}
 use Rattle.sc_expand.proofs.AlikeLemmas.{IsAlike-Keeps, lacks-first}
+use Rattle.sc_expand.proofs.Facts.{All-head, All-tail, Extends-refl, Extends-trans, IsConfig-Keeps, form_later, hidden_later, items_later}
 use Rattle.sc_expand.proofs.GatherCases.{case-closed}
 use Rattle.sc_expand.proofs.LastLemmas.{last-later}
 use Rattle.sc_expand.proofs.SeenLemmas.{IsHeldExpansion-Grows, at-Grows}
 use Rattle.sc_expand.proofs.TakingSteps.{decided-called, decided-misfit, has_first-Keeps, no-wait, seen-first, state-scanning}
+use Rattle.sc_expand.proofs.Terms.{AreHeld, AreHeldArguments, At, Branch, Cond, Definition, EndsBy, Expansion, Extends, Failure, Form, Frame, Gathers, Grows, HasLast, Hidden, HiddenToken, IsAlike, IsAlikeIn, IsConfig, IsHeldEnclosing, IsHeldExpansion, IsHeldForm, IsHeldFrame, IsHeldHidden, IsHeldItem, IsHeldRefusals, KeepsLists, Macros, Name, Place, Provenance, Rest, Sets, Span, Stores, Waits, WrongArguments, arguments_for, at, called, case_of, ends_at, failure_at, fitted_case, function_like, has_each, has_first, is_function_like, is_whole, lists_at, misfit, object_like, parted, seen_arguments, seen_at, seen_form, seen_hidden, seen_list, stores, view_at, with_call, with_end}
 use Rattle.sc_expand.proofs.WorkListLemmas.{has_each-Keeps}
-use Rattle.sc_expand.specs.Alike.{IsAlikeIn, Span}
-use Rattle.sc_expand.specs.Arguments.{parted}
 use Rattle.sc_expand.specs.Called.{AreGathered, Begins, HasBegun, HasLeft, IsBranch, IsMacro, refused, waits}
-use Rattle.sc_expand.specs.declared.expansion.Expansion.{Expansion}
-use Rattle.sc_expand.specs.declared.frame.Frame.{Frame}
 use Rattle.sc_expand.specs.Gather as gathers
-use Rattle.sc_expand.specs.Gather.{Gathers}
-use Rattle.sc_expand.specs.Having.{HasLast, has_each}
-use Rattle.sc_expand.specs.Machine.{IsHeldExpansion, KeepsLists, at, ends_at, is_whole, with_call}
-use Rattle.sc_expand.specs.Open.{Waits}
 use Rattle.sc_expand.specs.Plain.{Fails, bad_stringize, gathered, miscounted, scanning}
-use Rattle.sc_expand.specs.Seen.{AreHeld, Grows, IsHeldEnclosing, IsHeldFrame, IsHeldRefusals, Stores, seen_at, stores, view_at}
-use Rattle.sc_expand.specs.Taking.{has_first}
 use Rattle.sc_expand.specs.Turn as turn
-use Rattle.sc_expand.specs.Turn.{At, EndsBy, with_end}
-use Rattle.sc_hoist.specs.Alike.{IsAlike}
-use Rattle.sc_hoist.specs.Branches.{lists_at}
-use Rattle.sc_hoist.specs.declared.branch.Branch.{Branch}
 use Rattle.sc_macro.specs.declared.definition.Item as declared_item
 use Rattle.sc_macro.specs.declared.form.Form as declared_form
-use Rattle.sc_macro.specs.Seen.{IsHeldForm, IsHeldItem, seen_form}
-use Rattle.sc_model.proofs.SetLemmas.{IsConfig-Keeps}
-use Rattle.sc_model.specs.declared.cause.Cause.TheVariants.{WrongArguments}
-use Rattle.sc_model.specs.Growth.{Extends}
-use Rattle.sc_model.specs.Sets.{Sets, IsConfig}
-use Rattle.sc_subst.proofs.Later.{hidden_later}
-use Rattle.sc_subst.proofs.Turns.{form_later, items_later}
-use Rattle.sc_subst.specs.declared.hidden.Hidden.{Hidden}
-use Rattle.sc_subst.specs.Parts.{AreHeldArguments, seen_arguments, seen_list}
-use Rattle.sc_subst.specs.Seen.{IsHeldHidden, seen_hidden}
 
 -- ---- one configuration
 
-module _ (provenance : Provenance Place) (macros : Macros) (t : model.Hidden Place) (rest after : List (model.Hidden Place)) (a mid b : At) (work : a.view.work ≡ t ∷ rest) (calls : a.view.calls ≡ [])
+module _ (provenance : Provenance Place) (macros : Macros) (t : HiddenToken Place) (rest after : List (HiddenToken Place)) (a mid b : At) (work : a.view.work ≡ t ∷ rest) (calls : a.view.calls ≡ [])
     (taken : mid ≡ record a { view = record a.view { work = after } }) where
   -- a failure, whatever follows the list
   failed-gathers : (failure : Failure Place) → Fails provenance macros (scanning a.view.out (t ∷ rest)) failure → (Waits macros (scanning a.view.out (t ∷ rest)) → ⊥)
@@ -60,7 +27,7 @@ module _ (provenance : Provenance Place) (macros : Macros) (t : model.Hidden Pla
       (record { live = dead; ends = ends ∙ ap (λ (m : At). with_end m.ends (turn.fails failure)) taken; view = λ no. absurd (no-wait no) })
 
   -- a call that begins was taken out
-  begun-gathers : (d : Definition) (close : model.Hidden Place) (arguments : List (List (model.Hidden Place))) → case_of macros t rest ≡ called d arguments close after
+  begun-gathers : (d : Definition) (close : HiddenToken Place) (arguments : List (List (HiddenToken Place))) → case_of macros t rest ≡ called d arguments close after
       → Begins provenance d t close arguments mid b → Gathers provenance macros t rest a b false
   begun-gathers d close arguments case (waits template stands same) =
       let w = gathered provenance d t arguments close template in
@@ -76,7 +43,7 @@ module _ (provenance : Provenance Place) (macros : Macros) (t : model.Hidden Pla
 
 -- ---- lists
 
-pub rest-is : (st : Stores) (list : List (Cond × Hidden)) (c : List ℕ) (t : model.Hidden Place) (rest : List (model.Hidden Place)) → has_first st.sets list c ≡ true → seen_at st list c ≡ t ∷ rest → rest ≡ seen_at st (drop 1 list) c
+pub rest-is : (st : Stores) (list : List (Cond × Hidden)) (c : List ℕ) (t : HiddenToken Place) (rest : List (HiddenToken Place)) → has_first st.sets list c ≡ true → seen_at st list c ≡ t ∷ rest → rest ≡ seen_at st (drop 1 list) c
 rest-is st [] c t rest has is = absurd (cc)
 rest-is st (x ∷ xs) c t rest has is =
     let two : seen_hidden st.names st.hides x.1 ∷ seen_at st xs c ≡ t ∷ rest =
@@ -118,7 +85,7 @@ seen_arguments-later {names} {later} {sets} {later_sets} (x ∷ xs) held e f =
     let rest = seen_arguments-later xs (All-tail H x xs held) e f in
     λ i. first i ∷ rest i
 
-abbrev pub seen_fit : List (List ℕ) → List (List Name) → Option (List (List Hidden)) → Option (List (List (model.Hidden Place)))
+abbrev pub seen_fit : List (List ℕ) → List (List Name) → Option (List (List Hidden)) → Option (List (List (HiddenToken Place)))
 seen_fit names sets None = None
 seen_fit names sets (Some raw) = Some (seen_arguments names sets raw)
 
@@ -155,9 +122,9 @@ module _ {s0 s1 : Sets} {names : List (List ℕ)} {e0 e1 : Expansion} {branch : 
         below = subst (λ b. All (IsHeldEnclosing mid files) b.items) (sym left.below) later.below;
       }
 
-  left-at : (c : List ℕ) → IsConfig s0.arities c → (ws : List (model.Hidden Place)) → seen_at mid e1.top.work c ≡ ws → at mid e1 c ≡ record (at old e0 c) { view = record (at old e0 c).view { work = ws } }
+  left-at : (c : List ℕ) → IsConfig s0.arities c → (ws : List (HiddenToken Place)) → seen_at mid e1.top.work c ≡ ws → at mid e1 c ≡ record (at old e0 c) { view = record (at old e0 c).view { work = ws } }
   left-at c listed ws is =
-      let put : At → List (model.Hidden Place) → At = λ a l. record a { view = record a.view { work = l } } in
+      let put : At → List (HiddenToken Place) → At = λ a l. record a { view = record a.view { work = l } } in
       let one : at mid e1 c ≡ put (at mid e0 c) (seen_at mid e1.top.work c) =
       λ i. record { live = s1.has (left.refusals i).live.0 c; whole = is_whole (left.below i).items; view = view_at mid (left.top i) c; ends = ends_at s1 (left.refusals i) c } in
       one ∙ (λ i. put (at-Grows left-grows c listed e0 held i) (is i))
@@ -169,7 +136,7 @@ module _ {s0 s1 : Sets} {names : List (List ℕ)} {e0 e1 : Expansion} {branch : 
   module _ (form : declared_form.Form) (items : List declared_item.Item) (head : Hidden) (is_branch : IsBranch old e0 branch) (function : IsTrue (is_function_like (seen_form names form))) (fit : Option (List (List Hidden)))
       (fits : (parameters : List (List ℕ)) (variadic : Option Rest) → seen_form names form ≡ function_like parameters variadic
       → seen_fit names e0.sets fit ≡ arguments_for parameters (is_some variadic) (parted (length parameters) 0 (seen_list names e0.sets between))) where
-    left-case : (c : List ℕ) (provenance : Provenance Place) (macros : Macros) (d : Definition) (rest : List (model.Hidden Place)) → IsConfig s0.arities c → s0.has branch.cond.0 c ≡ true
+    left-case : (c : List ℕ) (provenance : Provenance Place) (macros : Macros) (d : Definition) (rest : List (HiddenToken Place)) → IsConfig s0.arities c → s0.has branch.cond.0 c ≡ true
         → (at old e0 c).view.work ≡ seen_hidden names e0.sets head ∷ rest → IsMacro old provenance macros form items head d
         → case_of macros (seen_hidden names e0.sets head) rest ≡ fitted_case d (seen_hidden names e0.sets close) (seen_at mid e1.top.work c) (seen_fit names e0.sets fit)
     left-case c provenance macros d rest listed has work is =
@@ -228,7 +195,7 @@ module _ {s0 s1 : Sets} {names : List (List ℕ)} {e0 e1 : Expansion} {branch : 
             let x = seen_hidden names e0.sets close in
             let arguments = seen_arguments names e0.sets raw in
             let after = seen_at mid e1.top.work c in
-            let B : model.Hidden Place → model.Hidden Place → List (List (model.Hidden Place)) → Type 0 = λ t x l. Begins provenance d t x l (at mid e1 c) (at new e2 c) in
+            let B : HiddenToken Place → HiddenToken Place → List (List (HiddenToken Place)) → Type 0 = λ t x l. Begins provenance d t x l (at mid e1 c) (at new e2 c) in
             let begins = begun.begins c provenance d (IsConfig-Keeps left.keeps listed) (has-later c listed ∙ has) (is.formed ∙ sym (form_later form form_held grows.names)) (is.list ∙ sym (items_later items items_held grows.names)) in
             let one = subst (λ t. B t (seen_hidden names2 e2.sets close) (seen_arguments names2 e2.sets raw)) (hidden_later head head_held grows.names later) begins in
             let two = subst (λ x. B t x (seen_arguments names2 e2.sets raw)) (hidden_later close close_held grows.names later) one in

@@ -1,7 +1,6 @@
 -- Steps that keep the lists below, what was put out and the tokens of the list on top.
 use Rattle.std.proofs.Common.{refl, ◌∙◌}
-use Rattle.sc_expand.specs.declared.expansion.Expansion.{Expansion}
-use Rattle.sc_expand.specs.Machine.{KeepsLists}
+use Rattle.sc_expand.proofs.Terms.{Expansion, KeepsLists}
 
 pub lists-same : (e : Expansion) → KeepsLists e e
 lists-same e = record { below = refl; rest = refl; out = refl; tokens = refl }

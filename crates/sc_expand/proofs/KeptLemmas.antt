@@ -1,19 +1,10 @@
 -- What those that wait keep of first tokens of the whole list that are gone.
 use Rattle.std.proofs.Common.{◌≡◌, ℕ, List, [], ◌∷◌, ◌++◌, All, append_assoc, append-nil, slice_get, Some, sym, ap, subst, refl, ◌∙◌}
-use Rattle.sc_base.specs.declared.id.Cond.{Cond}
 use Rattle.sc_expand.proofs.BottomLemmas.{bottom-frame}
+use Rattle.sc_expand.proofs.Terms.{Cond, Enclosing, Expansion, Grows, Hidden, IsCond, IsHeldExpansion, IsPushed, IsRestricted, Keeps, KeepsFirst, KeepsGone, Sets, Stores, bottom, bottom_by}
 use Rattle.sc_expand.proofs.UnchangedLemmas.{All-before, restricted-Keeps, restricted-append}
-use Rattle.sc_expand.specs.declared.expansion.Expansion.{Expansion}
-use Rattle.sc_expand.specs.declared.frame.Enclosing.{Enclosing}
-use Rattle.sc_expand.specs.Machine.{IsHeldExpansion}
-use Rattle.sc_expand.specs.Running.{KeepsGone, bottom, bottom_by}
-use Rattle.sc_expand.specs.Seen.{Grows, Stores}
 use Rattle.sc_expand.specs.Unchanged as unchanged
-use Rattle.sc_expand.specs.Unchanged.{IsPushed, IsRestricted}
 use Rattle.sc_expand.specs.Waiting as waiting
-use Rattle.sc_expand.specs.Waiting.{KeepsFirst}
-use Rattle.sc_model.specs.Sets.{IsCond, Keeps, Sets}
-use Rattle.sc_subst.specs.declared.hidden.Hidden.{Hidden}
 
 first-same : (list : List (Cond × Hidden)) (item : Cond × Hidden) (rest : List (Cond × Hidden)) (first : Cond × Hidden) → list ≡ item ∷ rest → slice_get list 0 ≡ Some first → first ≡ item
 first-same [] item rest first is at = absurd (cc)

@@ -1,13 +1,8 @@
 -- What a configuration keeps of the end of a list.
 use Rattle.std.proofs.Common.{◌≡◌, ◌⊎◌, ◌∙◌, ℕ, zero, suc, ◌≤◌, ◌++◌, Bool, true, false, List, [], ◌∷◌, All, drop, take, length, inl, refl, sym, ap, subst, if◌then◌else◌}
-use Rattle.std.proofs.lemmas.List.{length-map}
-use Rattle.std.proofs.lemmas.List.Elements.{All-drop, All-nil}
-use Rattle.sc_base.specs.declared.id.Cond.{Cond}
+use Rattle.sc_expand.proofs.Facts.{All-drop, All-nil, length-map}
+use Rattle.sc_expand.proofs.Terms.{Cond, HasLast, Hidden, IsCond, IsConfig, Keeps, Sets, behind_at, has_each, items_at}
 use Rattle.sc_expand.proofs.WorkListLemmas.{has_each-Keeps}
-use Rattle.sc_expand.specs.Having.{HasLast, behind_at, has_each}
-use Rattle.sc_guarded.specs.Items.{items_at}
-use Rattle.sc_model.specs.Sets.{IsCond, IsConfig, Keeps, Sets}
-use Rattle.sc_subst.specs.declared.hidden.Hidden.{Hidden}
 
 -- ---- how many items stand behind each
 

@@ -1,22 +1,9 @@
 -- Configurations in which a call is not closed, or a name stands alone.
 use Rattle.std.proofs.Common.{◌≡◌, ◌<◌, ℕ, ◌&&◌, ◌||◌, not, Bool, true, false, List, [], ◌∷◌, ◌++◌, All, append-nil, drop, map, refl, sym, ap, subst, ◌∙◌, if◌then◌else◌}
-use Rattle.std.proofs.Math.Bool.{or-false}
-use Rattle.std.proofs.lemmas.List.Elements.{All-drop}
-use Rattle.c11_macros.specs.Hidden.{Failure}
-use Rattle.sc_base.specs.declared.fault.Fault.{Fault}
-use Rattle.sc_base.specs.declared.id.Cond.{Cond}
-use Rattle.sc_base.specs.declared.place.Place.{Place}
 use Rattle.sc_expand.proofs.AlikeLemmas.{AreAlikeFaults-Keeps, IsAlike-Keeps, alike-of}
-use Rattle.sc_expand.specs.declared.refusals.Refusals.{Refusals}
-use Rattle.sc_expand.specs.Machine.{ends_at}
-use Rattle.sc_expand.specs.Refusing.{BeginsToWait, LeavesOpen, Refuses}
-use Rattle.sc_expand.specs.Seen.{IsHeldRefusals, failures_at, seen_failure}
+use Rattle.sc_expand.proofs.Facts.{All-drop, Denotes-Keeps, IsConfig-Keeps, IsConfig-kept, Keeps-trans, faults_at-Keeps, or-false, or_right}
+use Rattle.sc_expand.proofs.Terms.{AreAlikeFaults, BeginsToWait, Cond, Denotes, Failure, Fault, IsCond, IsConfig, IsHeldRefusals, Keeps, LeavesOpen, Place, Refusals, Refuses, Sets, ends_at, failures_at, seen_failure}
 use Rattle.sc_expand.specs.Turn.{fails, waits, with_end}
-use Rattle.sc_guarded.proofs.ItemLemmas.{faults_at-Keeps}
-use Rattle.sc_hoist.specs.Alike.{AreAlikeFaults}
-use Rattle.sc_model.proofs.SetLemmas.{Denotes-Keeps, IsConfig-Keeps, IsConfig-kept, Keeps-trans}
-use Rattle.sc_model.specs.Sets.{Denotes, IsCond, IsConfig, Keeps, Sets}
-use Rattle.std.proofs.lemmas.Bool.{or_right}
 
 -- those of the whole list wait
 module _ {s0 s1 s2 : Sets} (first : Keeps s0 s1) (second : Keeps s1 s2) (still bare alone left : ℕ) (failure : Failure Place) (was now : Refusals) (live_own : IsCond s0 was.live.0) (bare_own : IsCond s0 bare)

@@ -1,3 +1,5 @@
+pub mod Facts
+pub mod Terms
 pub mod AlikeLemmas
 pub mod AlikeGathering
 pub mod PlainArguments

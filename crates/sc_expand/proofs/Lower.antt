@@ -1,7 +1,7 @@
 -- The lower of two numbers.
 use Rattle.std.proofs.Common.{◌≡◌, ◌⊎◌, inl, inr, ℕ, ◌<◌, ◌≤◌, nat_le, Bool, true, false, min, refl, arith, if◌then◌else◌}
-use Rattle.std.proofs.lemmas.Bool.{cases_lt, leb-false, leb-true}
-use Rattle.sc_expand.specs.FootprintSteps.{lower_of}
+use Rattle.sc_expand.proofs.Facts.{cases_lt, leb-false, leb-true}
+use Rattle.sc_expand.proofs.Terms.{lower_of}
 
 pub lower-min : (n left : ℕ) → lower_of n left ≡ min n left
 lower-min n left = by (nat_le n left) refl

@@ -1,29 +1,19 @@
 -- An argument of a call is entered, and left, as a step of the whole.
 use Rattle.std.proofs.Common.{◌≡◌, ◌⊎◌, inl, inr, ℕ, ◌≤◌, Bool, true, false, true≢false, List, [], ◌∷◌, ◌++◌, All, map, length, length-append, refl, sym, ap, subst, ◌∙◌, arith, if◌then◌else◌}
-use Rattle.std.proofs.lemmas.List.Elements.{All-cons, All-head, All-nil, All-push, All-tail}
-use Rattle.c11_macros.specs.Hidden as model
-use Rattle.c11_macros.specs.Hidden.{Provenance}
-use Rattle.c11_macros.specs.Macros.{Macros}
-use Rattle.sc_base.specs.declared.place.Place.{Place}
-use Rattle.sc_expand.proofs.OpenLemmas.{called-waits, expands-not, under-waits}
-use Rattle.sc_expand.specs.Open.{Waits}
-use Rattle.sc_expand.proofs.UnchangedLemmas.{never-empty}
+use Rattle.sc_expand.proofs.Facts.{All-cons, All-head, All-nil, All-push, All-tail, cond-false, cond-true}
 use Rattle.sc_expand.proofs.MachineLemmas.{IsBelow, IsOnTop, alone, below-stands, called_in, goes, pending_at, stands-cases, state-top, stops, top-stands}
+use Rattle.sc_expand.proofs.OpenLemmas.{called-waits, expands-not, under-waits}
 use Rattle.sc_expand.proofs.PlainTurns.{move-under, under}
-use Rattle.sc_expand.specs.declared.call.Call.{Call}
-use Rattle.sc_expand.specs.declared.frame.Enclosing.{Enclosing}
-use Rattle.sc_expand.specs.Machine.{IsAbsent, Stands, no_view, state_in, with_call}
+use Rattle.sc_expand.proofs.Terms.{Call, Enclosing, HiddenToken, IsAbsent, Macros, Moves, Place, Provenance, Stands, Stores, View, Waiting, Waits, calls_at, expanding, no_view, scanning, seen_at, state_by, state_in, state_of, view_at, waiting, waiting_at, with_call, with_expanded, without_first}
+use Rattle.sc_expand.proofs.UnchangedLemmas.{never-empty}
 use Rattle.sc_expand.specs.Plain as plain
-use Rattle.sc_expand.specs.Plain.{Moves, Waiting, expanding, scanning, waiting, with_expanded, without_first}
-use Rattle.sc_expand.specs.Seen.{Stores, View, calls_at, seen_at, state_by, state_of, view_at, waiting_at}
-use Rattle.std.proofs.lemmas.Bool.{cond-false, cond-true}
 
 pub last-alone : {A : Type 0} (xs : List A) (x : A) → length (xs ++ x ∷ []) ≤ 1 → xs ≡ []
 last-alone [] x few = refl
 last-alone (y ∷ ys) x few = absurd (omega (arith, few, length-append ys (x ∷ [])))
 
 -- what it has of an argument: what was put out, and what is left
-abbrev pub argument_view : (out work : List (model.Hidden Place)) → View
+abbrev pub argument_view : (out work : List (HiddenToken Place)) → View
 argument_view out work = record { out = out; work = work; calls = [] }
 
 module _ (st : Stores) (c : List ℕ) where
@@ -105,7 +95,7 @@ module _ (st : Stores) (c : List ℕ) where
 
     module _ (provenance : Provenance Place) (macros : Macros) (below : List Enclosing) where
       -- a configuration of the call enters its argument
-      pub enter-called : (w : Waiting Place) (list : List (model.Hidden Place)) (others : List (ℕ × List (model.Hidden Place))) → st.sets.has e.call.cond.0 c ≡ true
+      pub enter-called : (w : Waiting Place) (list : List (HiddenToken Place)) (others : List (ℕ × List (HiddenToken Place))) → st.sets.has e.call.cond.0 c ≡ true
           → w.wanted ≡ (e.parameter, list) ∷ others → waiting_at st e.call c ≡ without_first w others → Stands st c below (with_call (view_at st e.frame c) w)
           → Stands st c (below ++ e ∷ []) (argument_view [] list) × Moves provenance macros (state_in st below (with_call (view_at st e.frame c) w) c) (state_in st (below ++ e ∷ []) (argument_view [] list) c)
       enter-called w list others has wanted is stands = elim (stands-cases st c stands) [
@@ -140,7 +130,7 @@ module _ (st : Stores) (c : List ℕ) where
       ]
 
       -- a configuration of the call leaves its argument
-      pub leave-called : (w : Waiting Place) (list : List (model.Hidden Place)) → st.sets.has e.call.cond.0 c ≡ true → w ≡ with_expanded (waiting_at st e.call c) e.parameter list
+      pub leave-called : (w : Waiting Place) (list : List (HiddenToken Place)) → st.sets.has e.call.cond.0 c ≡ true → w ≡ with_expanded (waiting_at st e.call c) e.parameter list
           → Stands st c (below ++ e ∷ []) (argument_view list [])
           → Stands st c below (with_call (view_at st e.frame c) w) × Moves provenance macros (state_in st (below ++ e ∷ []) (argument_view list []) c) (state_in st below (with_call (view_at st e.frame c) w) c)
       leave-called w list has is stands = elim (stands-cases st c stands) [

@@ -1,29 +1,12 @@
 -- A call that goes on, as a step of the whole: its next argument is entered, or it is replaced.
 use Rattle.std.proofs.Common.{◌≡◌, ℕ, ◌&&◌, Bool, true, false, true≢false, List, [], ◌∷◌, ◌++◌, All, map, reverse, refl, sym, ap, subst, ◌∙◌, Option, option_to_list, if◌then◌else◌}
-use Rattle.std.proofs.lemmas.List.{reverse-append}
-use Rattle.std.proofs.lemmas.List.Elements.{All-cons, All-head, All-nil, All-pop, All-push, All-tail}
-use Rattle.c11_macros.specs.Hidden.{Provenance}
-use Rattle.c11_macros.specs.Macros.{Macros}
-use Rattle.sc_base.specs.declared.id.Cond.{Cond}
-use Rattle.sc_base.specs.declared.place.Place.{Place}
+use Rattle.sc_expand.proofs.Facts.{All-cons, All-head, All-nil, All-pop, All-push, All-tail, items_at-under, reverse-append}
 use Rattle.sc_expand.proofs.MachineCalls.{argument_view, called-decides, enter-called, enter-other}
 use Rattle.sc_expand.proofs.MachineLemmas.{Stands-Grows, state_in-Grows, turn-progress}
 use Rattle.sc_expand.proofs.SeenLemmas.{AreHeld-nil, ends_at-Grows, view_at-Grows, waiting_at-Grows}
-use Rattle.sc_expand.specs.declared.call.Call.{Call}
-use Rattle.sc_expand.specs.declared.call.Wanted.{Wanted}
-use Rattle.sc_expand.specs.declared.expansion.Expansion.{Expansion}
-use Rattle.sc_expand.specs.declared.frame.Enclosing.{Enclosing}
-use Rattle.sc_expand.specs.Machine.{HasEntered, IsHeldExpansion, Progress, Stands, at, at_call, ends_at, gone, is_whole, no_view, rests, state_in, steps, with_call}
-use Rattle.sc_expand.specs.Plain.{Moves, without_first}
-use Rattle.sc_expand.specs.Seen.{AreHeld, Grows, IsHeldCall, IsHeldEnclosing, IsHeldRefusals, IsHeldTemplate, IsHeldToken, Stores, calls_at, seen_at, seen_wanted, view_at, waiting_at}
+use Rattle.sc_expand.proofs.Terms.{AreHeld, Call, Cond, Enclosing, Expansion, Grows, HasEntered, Hidden, Hide, IsCond, IsConfig, IsHeldCall, IsHeldEnclosing, IsHeldExpansion, IsHeldRefusals, IsHeldSet, IsHeldTemplate, IsHeldToken, Macros, Moves, Place, Progress, Provenance, Stands, Stores, Wanted, at, at_call, calls_at, ends_at, gone, is_whole, no_view, rests, seen_at, seen_hidden, seen_list, seen_wanted, state_in, steps, view_at, waiting_at, with_call, without_first}
 use Rattle.sc_expand.specs.Turn as turns
 use Rattle.sc_expand.specs.Turn.{At, Turn, moved, over, passed}
-use Rattle.sc_guarded.proofs.ItemLemmas.{items_at-under}
-use Rattle.sc_model.specs.Sets.{IsCond, IsConfig}
-use Rattle.sc_subst.specs.declared.hidden.Hidden.{Hidden}
-use Rattle.sc_subst.specs.declared.hidden.Hide.{Hide}
-use Rattle.sc_subst.specs.Parts.{seen_list}
-use Rattle.sc_subst.specs.Seen.{IsHeldSet, seen_hidden}
 
 module _ (provenance : Provenance Place) (macros : Macros) {old new : Stores} (grows : Grows old new) (files : ℕ) (c : List ℕ) (listed : IsConfig old.sets.arities c) where
   -- what was refused does not matter

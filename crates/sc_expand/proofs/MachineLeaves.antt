@@ -1,22 +1,8 @@
 -- An argument that has been expanded is left, as a step of the whole.
 use Rattle.std.proofs.Common.{◌≡◌, ℕ, Bool, true, false, List, [], ◌∷◌, ◌++◌, All, map, refl, sym, ap, subst, ◌∙◌, append-nil, if◌then◌else◌}
-use Rattle.std.proofs.lemmas.List.{map-set}
-use Rattle.std.proofs.lemmas.List.Elements.{All-push, All-set}
-use Rattle.c11_macros.specs.Hidden.{Provenance}
-use Rattle.c11_macros.specs.Macros.{Macros}
-use Rattle.sc_base.specs.declared.id.Cond.{Cond}
-use Rattle.sc_base.specs.declared.place.Place.{Place}
+use Rattle.sc_expand.proofs.Facts.{All-push, All-set, map-set}
 use Rattle.sc_expand.proofs.MachineCalls.{argument-decides, argument_view, calls_at-append, leave-called, leave-other}
-use Rattle.sc_expand.specs.declared.call.Wanted.{Wanted}
-use Rattle.sc_expand.specs.declared.expansion.Expansion.{Expansion}
-use Rattle.sc_expand.specs.declared.frame.Enclosing.{Enclosing}
-use Rattle.sc_expand.specs.Machine.{IsHeldExpansion, IsResumed, Progress, Stands, at, ends_at, gone, rests, state_in, steps, with_call}
-use Rattle.sc_expand.specs.Plain.{Moves, with_expanded}
-use Rattle.sc_expand.specs.Seen.{AreHeld, IsHeldCall, IsHeldEnclosing, IsHeldRefusals, IsHeldTemplate, IsHeldToken, Stores, calls_at, seen_at, view_at, waiting_at}
-use Rattle.sc_model.specs.Sets.{IsCond}
-use Rattle.sc_subst.specs.declared.hidden.Hidden.{Hidden}
-use Rattle.sc_subst.specs.declared.hidden.Hide.{Hide}
-use Rattle.sc_subst.specs.Seen.{IsHeldSet}
+use Rattle.sc_expand.proofs.Terms.{AreHeld, Cond, Enclosing, Expansion, Hidden, Hide, IsCond, IsHeldCall, IsHeldEnclosing, IsHeldExpansion, IsHeldRefusals, IsHeldSet, IsHeldTemplate, IsHeldToken, IsResumed, Macros, Moves, Place, Progress, Provenance, Stands, Stores, Wanted, at, calls_at, ends_at, gone, rests, seen_at, state_in, steps, view_at, waiting_at, with_call, with_expanded}
 
 module _ (provenance : Provenance Place) (macros : Macros) (st : Stores) (c : List ℕ) (below : List Enclosing) (o : Enclosing) (e after : Expansion)
     (resumed : IsResumed o e.top.out after.top.calls.items) (work : after.top.work ≡ o.frame.work) (out : after.top.out ≡ o.frame.out) (refusals : after.refusals ≡ e.refusals)

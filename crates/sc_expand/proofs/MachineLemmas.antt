@@ -1,25 +1,15 @@
 -- A turn of the frame on top, as a step of the whole.
 use Rattle.std.proofs.Common.{◌≡◌, ◌⊎◌, inl, inr, ℕ, ◌≤◌, Bool, true, false, true≢false, List, [], ◌∷◌, All, map, length, refl, sym, ap, subst, ◌∙◌, if◌then◌else◌}
-use Rattle.std.proofs.lemmas.List.Elements.{All-cons, All-head, All-nil, All-tail}
-use Rattle.c11_macros.specs.Hidden as model
-use Rattle.c11_macros.specs.Hidden.{Failure, Provenance}
-use Rattle.c11_macros.specs.Macros.{Macros}
 use Rattle.c11_macros.specs.Runs.{IsHeld, Settles}
-use Rattle.sc_base.specs.declared.place.Place.{Place}
+use Rattle.sc_expand.proofs.Facts.{All-cons, All-head, All-nil, All-tail, cond-true}
 use Rattle.sc_expand.proofs.PlainSettles.{Opens, opens-fail, opens-move, opens-wait}
 use Rattle.sc_expand.proofs.PlainTurns.{Pending, fails-under, move-under, under}
 use Rattle.sc_expand.proofs.SeenLemmas.{calls_at-Grows, view_at-Grows, seen_at-Grows, waiting_at-Grows}
-use Rattle.sc_expand.specs.declared.frame.Enclosing.{Enclosing}
-use Rattle.sc_expand.specs.Machine.{IsAbsent, Progress, Stands, ends, gone, here, inside, is_whole, no_view, on_top, rests, state_in, steps}
+use Rattle.sc_expand.proofs.Terms.{Enclosing, Fails, Failure, Grows, HiddenToken, IsAbsent, IsConfig, IsHeldEnclosing, Macros, Moves, Place, Progress, Provenance, Stands, State, Stores, View, Waits, calls_at, ends, expanding, gone, here, inside, is_whole, no_view, on_top, rests, scanning, seen_at, state_in, state_of, steps, view_at, waiting_at}
 use Rattle.sc_expand.specs.Open as open_end
-use Rattle.sc_expand.specs.Open.{Waits}
 use Rattle.sc_expand.specs.Plain as plain
-use Rattle.sc_expand.specs.Plain.{Fails, Moves, State, expanding, scanning}
-use Rattle.sc_expand.specs.Seen.{Grows, IsHeldEnclosing, Stores, View, calls_at, seen_at, state_of, view_at, waiting_at}
 use Rattle.sc_expand.specs.Turn as turn
 use Rattle.sc_expand.specs.Turn.{At, End, Ends, EndsBy, IsDecided, Turn, ended, held_up, moved, no_end, over, passed, refused, with_end}
-use Rattle.sc_model.specs.Sets.{IsConfig}
-use Rattle.std.proofs.lemmas.Bool.{cond-true}
 
 -- ---- the state by the view of the frame on top
 
@@ -102,7 +92,7 @@ module _ {old new : Stores} (grows : Grows old new) (files : ℕ) (c : List ℕ)
 -- ---- one configuration in the run
 
 -- nothing moves or fails where nothing is left
-pub no-move : {provenance : Provenance Place} {macros : Macros} {s t : State Place} {o : List (model.Hidden Place)} → Moves provenance macros s t → s ≡ scanning o [] → ⊥
+pub no-move : {provenance : Provenance Place} {macros : Macros} {s t : State Place} {o : List (HiddenToken Place)} → Moves provenance macros s t → s ≡ scanning o [] → ⊥
 no-move (plain.stay out rest t is) e = absurd (cc)
 no-move (plain.object out rest body t d is made) e = absurd (cc)
 no-move (plain.gather out rest after t close d arguments template is makes) e = absurd (cc)
@@ -122,7 +112,7 @@ no-fail (plain.inside_fails out work w n f) e = absurd (cc)
 module _ (provenance : Provenance Place) (macros : Macros) where
   -- A configuration was never in the run, goes on, has its one failure, or waits. This was put out
   -- of the whole list, and this is left.
-  pub data IsTold (source out left : List (model.Hidden Place)) (st : Stores) (c : List ℕ) (below : List Enclosing) (a : At) : Bool → Type 0 where
+  pub data IsTold (source out left : List (HiddenToken Place)) (st : Stores) (c : List ℕ) (below : List Enclosing) (a : At) : Bool → Type 0 where
     unasked : a.live ≡ false → a.ends ≡ no_end → IsTold source out left st c below a false
     going : a.live ≡ true → a.ends ≡ no_end → Stands st c below a.view → Opens provenance macros source (state_in st below a.view c) → IsTold source out left st c below a true
     failed : (failure : Failure Place) → a.live ≡ false → a.ends ≡ with_end no_end (turn.fails failure) → IsHeld provenance macros source failure → IsTold source out left st c below a true
@@ -199,23 +189,23 @@ module _ (provenance : Provenance Place) (macros : Macros) where
     progress-step (steps was now same free move) live stands = (was, record { step = inl (move (stands was)).1; moves = λ yes. (move (stands was)).1; free = λ yes. free (stands was); stays = λ no. absurd (true≢false no) })
     progress-step (ends end was not same by) live stands = absurd (true≢false (sym live ∙ not))
 
-    module _ (source : List (model.Hidden Place)) where
+    module _ (source : List (HiddenToken Place)) where
       -- what waits has put out and left what its state says
-      settles-waiting : {out left : List (model.Hidden Place)} {s : State Place} → Opens provenance macros source s → Waits macros s → ((o w : List (model.Hidden Place)) → s ≡ scanning o w → (o ≡ out) × (w ≡ left)) → Settles provenance macros source out left
-      settles-waiting opens (open_end.alone o rest t is) told = let q = told o (t ∷ rest) refl in subst (λ (p : List (model.Hidden Place) × List (model.Hidden Place)). Settles provenance macros source p.0 p.1) (λ i. (q.0 i, q.1 i)) (opens-wait provenance macros source o (t ∷ rest) opens (open_end.alone o rest t is))
-      settles-waiting opens (open_end.open_call o rest t is) told = let q = told o (t ∷ rest) refl in subst (λ (p : List (model.Hidden Place) × List (model.Hidden Place)). Settles provenance macros source p.0 p.1) (λ i. (q.0 i, q.1 i)) (opens-wait provenance macros source o (t ∷ rest) opens (open_end.open_call o rest t is))
+      settles-waiting : {out left : List (HiddenToken Place)} {s : State Place} → Opens provenance macros source s → Waits macros s → ((o w : List (HiddenToken Place)) → s ≡ scanning o w → (o ≡ out) × (w ≡ left)) → Settles provenance macros source out left
+      settles-waiting opens (open_end.alone o rest t is) told = let q = told o (t ∷ rest) refl in subst (λ (p : List (HiddenToken Place) × List (HiddenToken Place)). Settles provenance macros source p.0 p.1) (λ i. (q.0 i, q.1 i)) (opens-wait provenance macros source o (t ∷ rest) opens (open_end.alone o rest t is))
+      settles-waiting opens (open_end.open_call o rest t is) told = let q = told o (t ∷ rest) refl in subst (λ (p : List (HiddenToken Place) × List (HiddenToken Place)). Settles provenance macros source p.0 p.1) (λ i. (q.0 i, q.1 i)) (opens-wait provenance macros source o (t ∷ rest) opens (open_end.open_call o rest t is))
 
-      module _ {out left out2 left2 : List (model.Hidden Place)} where
+      module _ {out left out2 left2 : List (HiddenToken Place)} where
         told-ends : {s : State Place} {b : At} (was : Ends) (end : End) → Opens provenance macros source s → was ≡ no_end → b.live ≡ false → b.ends ≡ with_end was end → EndsBy provenance macros true s end
-            → (b.ends.waiting ≡ true → (out ≡ out2) × (left ≡ left2)) → ((o w : List (model.Hidden Place)) → s ≡ scanning o w → (o ≡ out) × (w ≡ left)) → IsTold source out2 left2 new c later b true
+            → (b.ends.waiting ≡ true → (out ≡ out2) × (left ≡ left2)) → ((o w : List (HiddenToken Place)) → s ≡ scanning o w → (o ≡ out) × (w ≡ left)) → IsTold source out2 left2 new c later b true
         told-ends {s} was _ opens none not same (refused failure f decided) kept told =
             failed failure not (same ∙ ap (λ e. with_end e (turn.fails failure)) none) (opens-fail provenance macros source s failure opens f (decided refl))
         told-ends was _ opens none not same (held_up all w) kept told =
             let q = kept (ap (λ e. e.waiting) same) in
-            waiting not (same ∙ ap (λ e. with_end e turn.waits) none) (subst (λ (p : List (model.Hidden Place) × List (model.Hidden Place)). Settles provenance macros source p.0 p.1) (λ i. (q.0 i, q.1 i)) (settles-waiting opens w told))
+            waiting not (same ∙ ap (λ e. with_end e turn.waits) none) (subst (λ (p : List (HiddenToken Place) × List (HiddenToken Place)). Settles provenance macros source p.0 p.1) (λ i. (q.0 i, q.1 i)) (settles-waiting opens w told))
 
         pub told-progress : {a b : At} {started : Bool} (takes : Bool) → Progress provenance macros old new c below later a b takes → (b.ends.waiting ≡ true → (out ≡ out2) × (left ≡ left2))
-            → (a.ends ≡ no_end → (o w : List (model.Hidden Place)) → state_in old below a.view c ≡ scanning o w → (o ≡ out) × (w ≡ left)) → IsTold source out left old c below a started → IsTold source out2 left2 new c later b started
+            → (a.ends ≡ no_end → (o w : List (HiddenToken Place)) → state_in old below a.view c ≡ scanning o w → (o ≡ out) × (w ≡ left)) → IsTold source out left old c below a started → IsTold source out2 left2 new c later b started
         told-progress {a} {b} takes progress kept told (unasked not none) = by takes progress
           where
             by : (t : Bool) → Progress provenance macros old new c below later a b t → IsTold source out2 left2 new c later b false
@@ -233,7 +223,7 @@ module _ (provenance : Provenance Place) (macros : Macros) where
         told-progress {a} {b} takes progress kept told (waiting not one settles) = by takes progress
           where
             still-waits : b.live ≡ false → b.ends ≡ a.ends → IsTold source out2 left2 new c later b true
-            still-waits done same = let q = kept (ap (λ e. e.waiting) (same ∙ one)) in waiting done (same ∙ one) (subst (λ (p : List (model.Hidden Place) × List (model.Hidden Place)). Settles provenance macros source p.0 p.1) (λ i. (q.0 i, q.1 i)) settles)
+            still-waits done same = let q = kept (ap (λ e. e.waiting) (same ∙ one)) in waiting done (same ∙ one) (subst (λ (p : List (HiddenToken Place) × List (HiddenToken Place)). Settles provenance macros source p.0 p.1) (λ i. (q.0 i, q.1 i)) settles)
 
             by : (t : Bool) → Progress provenance macros old new c below later a b t → IsTold source out2 left2 new c later b true
             by t (rests still same stays) = still-waits (still ∙ not) same

@@ -1,29 +1,11 @@
 -- A call that is replaced, or refused, is a turn of the frame that it left.
 use Rattle.std.proofs.Common.{◌≡◌, ℕ, ◌≤◌, ◌&&◌, not, Bool, true, false, List, [], ◌∷◌, ◌++◌, map, reverse, length, Ok, Err, refl, sym, ap, subst, ◌∙◌, arith, if◌then◌else◌}
-use Rattle.std.proofs.Math.Bool.{and-false, and-true}
-use Rattle.c11_macros.specs.Hidden.{Failure}
-use Rattle.c11_macros.specs.Macros.{Macros}
-use Rattle.c11_macros.specs.Results.{result_map}
-use Rattle.c11_macros.specs.Substitution.{hiding, with_space}
-use Rattle.sc_base.specs.declared.id.Cond.{Cond}
-use Rattle.sc_base.specs.declared.place.Place.{Place}
-use Rattle.sc_expand.proofs.SeenLemmas.{calls_at-Grows, ends_at-Grows, seen_at-Grows, seen_at-append}
-use Rattle.sc_expand.specs.declared.call.Call.{Call}
-use Rattle.sc_expand.specs.declared.expansion.Expansion.{Expansion}
-use Rattle.sc_expand.specs.Machine.{IsHeldExpansion, at, at_call, ends_at, with_call}
-use Rattle.sc_expand.specs.Open.{Waits}
+use Rattle.sc_expand.proofs.Facts.{IsConfig-Keeps, and-false, and-true}
 use Rattle.sc_expand.proofs.OpenLemmas.{waits-not}
+use Rattle.sc_expand.proofs.SeenLemmas.{calls_at-Grows, ends_at-Grows, seen_at-Grows, seen_at-append}
+use Rattle.sc_expand.proofs.Terms.{Call, Cause, Cond, Denotes, Expansion, Fails, Failure, Grows, Hidden, IsConfig, IsHeldExpansion, Macros, Moves, Part, Place, State, Stores, Waiting, Waits, at, at_call, calls_at, ends_at, filled_in, hide_at, hiding, provenance_of, replacement_of, result_map, scanning, seen_at, seen_part, seen_template, seen_wanted, state_by, state_of, view_at, waiting, waiting_at, with_call, with_space}
 use Rattle.sc_expand.specs.Plain as plain
-use Rattle.sc_expand.specs.Plain.{Fails, Moves, State, Waiting, replacement_of, scanning, waiting}
-use Rattle.sc_expand.specs.Seen.{Grows, Stores, calls_at, provenance_of, seen_at, seen_template, seen_wanted, state_by, state_of, view_at, waiting_at}
 use Rattle.sc_expand.specs.Turn.{Turn, ended, fails, moved, passed, refused, with_end}
-use Rattle.sc_model.proofs.SetLemmas.{IsConfig-Keeps}
-use Rattle.sc_model.specs.declared.cause.Cause.{Cause}
-use Rattle.sc_model.specs.Sets.{IsConfig, Denotes}
-use Rattle.sc_subst.specs.declared.hidden.Hidden.{Hidden}
-use Rattle.sc_subst.specs.declared.part.Part.{Part}
-use Rattle.sc_subst.specs.Parts.{filled_in, seen_part}
-use Rattle.sc_subst.specs.Seen.{hide_at}
 
 module _ {old new : Stores} (grows : Grows old new) (files : ℕ) (e after : Expansion) (call : Call) (held : IsHeldExpansion old files e) (out : after.top.out ≡ e.top.out) (calls : after.top.calls ≡ e.top.calls)
     (none : call.wanted.items ≡ []) (table : List (List ℕ)) (macros : Macros) (c : List ℕ) (listed : IsConfig old.sets.arities c) where

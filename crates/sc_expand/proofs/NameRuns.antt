@@ -1,30 +1,18 @@
 -- The run of a name, by the steps of its expansion: what a state still makes of what stands in
 -- front of the list, the state before it does as well.
 use Rattle.std.proofs.Common.{◌≡◌, ◌⊎◌, inl, inr, ℕ, false, List, [], ◌∷◌, ◌++◌, append_assoc, append-nil, length, length-append, map, Result, Ok, Err, refl, sym, ap, ◌∙◌, subst, arith}
-use Rattle.std.proofs.lemmas.Bool.{false_from_ne_true}
-use Rattle.std.proofs.lemmas.List.{append_cancel_right}
-use Rattle.c11_macros.proofs.CallEnds.{called-ends, case-in, cons-some, misfit-ends}
-use Rattle.c11_macros.proofs.Resuming.{leaves-source}
-use Rattle.c11_macros.proofs.RunExpands.{leaves-split, these-none}
 use Rattle.c11_macros.specs.Expansion as expansion
-use Rattle.c11_macros.specs.Expansion.{asked, call_result, called, case_of, Each, Expands, misfit, next, none, object_result, replaced, stays, stops}
-use Rattle.c11_macros.specs.Hidden.{Failure, Hidden, Provenance, meet, with_name}
-use Rattle.c11_macros.specs.Macros.{Definition, Macros}
-use Rattle.c11_macros.specs.Results.{result_and_then}
-use Rattle.c11_macros.specs.Runs.{Uses, no_uses, then_uses, using, End, over, waits, fails, is_last_name, Leaves, within, beyond, Runs}
 use Rattle.c11_macros.specs.Runs as run
-use Rattle.c11_macros.specs.Substitution.{Slot, put_together}
-use Rattle.c11_macros.specs.Trace.{looked_up_at, trace, trace_each}
+use Rattle.sc_expand.proofs.Facts.{append_cancel_right, called-ends, case-in, cons-some, false_from_ne_true, leaves-source, leaves-split, misfit-ends, these-none}
+use Rattle.sc_expand.proofs.Lower.{lower-all, lower-min}
 use Rattle.sc_expand.proofs.PlainArguments.{replaced_with}
 use Rattle.sc_expand.proofs.PlainCompletes.{Completes, looked, scanned, scans}
 use Rattle.sc_expand.proofs.PlainMoves.{asked-each, fails-by, move-back, none-asked}
 use Rattle.sc_expand.proofs.PlainNames.{Covers, covers-back, covers-both, covers-front, covers-same, covers-then}
-use Rattle.sc_expand.proofs.Lower.{lower-all, lower-min}
+use Rattle.sc_expand.proofs.Terms.{Definition, Each, End, Expands, Fails, Failure, HiddenToken as Hidden, IsTemplate, Leaves, Macros, Moves, Provenance, Runs, Slot, State, Uses, Waiting, Waits, asked, beyond, call_result, called, case_of, expanding, fails, gathered, is_last_name, looked_up_at, meet, misfit, next, no_uses, none, object_result, over, put_together, replaced, replacement_of, result_and_then, scanning, stays, stops, then_uses, trace, trace_each, using, waiting, waits, with_expanded, with_name, within, without_first}
 use Rattle.sc_expand.specs.FootprintSteps.{IsPending, bottom, lower_of}
 use Rattle.sc_expand.specs.Open as opened
-use Rattle.sc_expand.specs.Open.{Waits}
 use Rattle.sc_expand.specs.Plain as plain
-use Rattle.sc_expand.specs.Plain.{Fails, IsTemplate, Moves, State, Waiting, expanding, gathered, replacement_of, scanning, waiting, with_expanded, without_first}
 
 module _ {P : Type 0} where
   -- the end of two lists together lies in the second, or begins in the first

@@ -1,18 +1,9 @@
 -- What a state still uses of the name that is expanded: each state runs, looks its next token up
 -- first, and takes what its next call takes.
 use Rattle.std.proofs.Common.{◌≡◌, ℕ, ◌+◌, ◌≤◌, List, [], ◌∷◌, ◌++◌, length, length-append, Result, Ok, Err, refl, sym, ap, ◌∙◌, subst, arith}
-use Rattle.std.proofs.lemmas.List.{append_cancel_right}
-use Rattle.c11_macros.proofs.Halting.{halts}
-use Rattle.c11_macros.proofs.LongerLists.{last-stays}
-use Rattle.c11_macros.proofs.Resuming.{leaves-source}
-use Rattle.c11_macros.proofs.RunExpands.{leaves-split}
 use Rattle.c11_macros.proofs.Splitting.{split}
-use Rattle.c11_macros.specs.Expansion.{Case, IsWithin, called, case_of, misfit, replaced, stays, unclosed}
-use Rattle.c11_macros.specs.Hidden.{Failure, Hidden, Provenance}
-use Rattle.c11_macros.specs.Macros.{Macros}
-use Rattle.c11_macros.specs.Runs.{Uses, no_uses, then_uses, using, End, fails, Leaves, Runs}
 use Rattle.c11_macros.specs.Runs as run
-use Rattle.c11_macros.specs.Trace.{looked_up_at, trace_each}
+use Rattle.sc_expand.proofs.Facts.{append_cancel_right, halts, last-stays, leaves-source, leaves-split}
 use Rattle.sc_expand.proofs.NameRuns.{IsInFront, RescanRuns, StateRuns, on, refused, refuses, replaces, resumes, scans_on}
 use Rattle.sc_expand.proofs.PlainAgreement.{head-taken}
 use Rattle.sc_expand.proofs.PlainArguments.{replaced_with, supplied}
@@ -20,8 +11,8 @@ use Rattle.sc_expand.proofs.PlainCompletes as completes
 use Rattle.sc_expand.proofs.PlainCompletes.{Completes, Ends, ends, looked, scanned}
 use Rattle.sc_expand.proofs.PlainNames.{Covers, covers-front, covers-same, covers-then}
 use Rattle.sc_expand.proofs.PlainTurns.{Pending, under}
+use Rattle.sc_expand.proofs.Terms.{Case, End, Failure, HiddenToken as Hidden, IsWithin, Leaves, Macros, Provenance, Runs, State, Uses, Waiting, called, case_of, expanding, fails, looked_up_at, misfit, no_uses, replaced, scanning, stays, then_uses, trace_each, unclosed, using, waiting, with_expanded}
 use Rattle.sc_expand.specs.FootprintSteps.{bottom}
-use Rattle.sc_expand.specs.Plain.{State, Waiting, expanding, scanning, waiting, with_expanded}
 
 module _ {P : Type 0} (provenance : Provenance P) (macros : Macros) where
   abbrev Answer : Type 0

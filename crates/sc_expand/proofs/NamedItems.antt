@@ -1,17 +1,10 @@
 -- What is told by the index of an item: what there is of each.
 use Rattle.std.proofs.Common.{◌≡◌, ℕ, suc, Bool, true, false, nat_eq, List, [], ◌∷◌, ◌++◌, All, append_assoc, append-nil, drop, length, map, refl, sym, ap, subst, ◌∙◌, if◌then◌else◌}
-use Rattle.std.proofs.lemmas.Bool.{eq-eqb, ne_eqb}
-use Rattle.std.proofs.lemmas.List.{map-append}
-use Rattle.std.proofs.lemmas.List.Elements.{All-append, All-cons, All-head, All-nil, All-tail}
-use Rattle.sc_base.specs.declared.id.Cond.{Cond}
 use Rattle.sc_expand.proofs.AlikeLemmas.{AreAlike-Keeps}
+use Rattle.sc_expand.proofs.Facts.{All-append, All-cons, All-head, All-nil, All-tail, eq-eqb, items_at-Keeps, items_at-append, map-append, ne_eqb}
+use Rattle.sc_expand.proofs.Terms.{AreAlike, Cond, IsAhead, IsAlike, IsCond, IsConfig, IsSameName, Keeps, Sets, indexes_in, items_at, of_item}
 use Rattle.sc_expand.proofs.UnchangedLemmas.{All-before, All-behind}
-use Rattle.sc_expand.specs.Spans.{IsAhead, IsSameName, indexes_in, of_item}
 use Rattle.sc_expand.specs.Spans as spans
-use Rattle.sc_guarded.proofs.ItemLemmas.{items_at-Keeps, items_at-append}
-use Rattle.sc_guarded.specs.Items.{items_at}
-use Rattle.sc_hoist.specs.Alike.{AreAlike, IsAlike}
-use Rattle.sc_model.specs.Sets.{IsCond, IsConfig, Keeps, Sets}
 
 module _ {A : Type 0} where
   pub item-append : (at : ℕ) (xs ys : List (ℕ × A)) → of_item at (xs ++ ys) ≡ of_item at xs ++ of_item at ys

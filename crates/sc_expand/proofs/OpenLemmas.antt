@@ -1,25 +1,21 @@
 -- A call that waits for its arguments doesn't wait for what follows the list.
 use Rattle.std.proofs.Common.{◌≡◌, ℕ, List, [], ◌∷◌, ◌++◌, refl}
-use Rattle.c11_macros.specs.Hidden as model
-use Rattle.c11_macros.specs.Macros.{Macros}
-use Rattle.sc_base.specs.declared.place.Place.{Place}
 use Rattle.sc_expand.proofs.PlainTurns.{Pending, under}
+use Rattle.sc_expand.proofs.Terms.{HiddenToken, Macros, Place, State, Waiting, expanding, state_by, waiting}
 use Rattle.sc_expand.specs.Open.{Waits, alone, open_call}
-use Rattle.sc_expand.specs.Plain.{State, Waiting, expanding, waiting}
-use Rattle.sc_expand.specs.Seen.{state_by}
 
 module _ {macros : Macros} where
-  pub waits-not : {out work : List (model.Hidden Place)} {w : Waiting Place} → Waits macros (waiting out work w) → ⊥
+  pub waits-not : {out work : List (HiddenToken Place)} {w : Waiting Place} → Waits macros (waiting out work w) → ⊥
   waits-not waits = by waits refl
     where
-      by : {out work : List (model.Hidden Place)} {w : Waiting Place} {s : State Place} → Waits macros s → s ≡ waiting out work w → ⊥
+      by : {out work : List (HiddenToken Place)} {w : Waiting Place} {s : State Place} → Waits macros s → s ≡ waiting out work w → ⊥
       by (alone out rest t is) e = cc
       by (open_call out rest t is) e = cc
 
-  pub expands-not : {out work : List (model.Hidden Place)} {w : Waiting Place} {n : ℕ} {s : State Place} → Waits macros (expanding out work w n s) → ⊥
+  pub expands-not : {out work : List (HiddenToken Place)} {w : Waiting Place} {n : ℕ} {s : State Place} → Waits macros (expanding out work w n s) → ⊥
   expands-not waits = by waits refl
     where
-      by : {out work : List (model.Hidden Place)} {w : Waiting Place} {n : ℕ} {r s : State Place} → Waits macros r → r ≡ expanding out work w n s → ⊥
+      by : {out work : List (HiddenToken Place)} {w : Waiting Place} {n : ℕ} {r s : State Place} → Waits macros r → r ≡ expanding out work w n s → ⊥
       by (alone out rest t is) e = cc
       by (open_call out rest t is) e = cc
 
@@ -28,6 +24,6 @@ module _ {macros : Macros} where
   under-waits [] s free w = free w
   under-waits (p ∷ ps) s free w = expands-not w
 
-  pub called-waits : (out work : List (model.Hidden Place)) (calls : List (Waiting Place)) (w : Waiting Place) → Waits macros (state_by out work (calls ++ w ∷ [])) → ⊥
+  pub called-waits : (out work : List (HiddenToken Place)) (calls : List (Waiting Place)) (w : Waiting Place) → Waits macros (state_by out work (calls ++ w ∷ [])) → ⊥
   called-waits out work [] w waits = waits-not waits
   called-waits out work (k ∷ ks) w waits = waits-not waits

@@ -1,14 +1,9 @@
 -- The tokens between the parentheses of a call, parted, are its arguments (C11 6.10.3p11).
 use Rattle.std.proofs.Common.{◌≡◌, ◌<◌, ℕ, zero, suc, ◌+◌, ◌-◌, List, [], ◌∷◌, ◌++◌, length, Option, Some, None, ap, sym, ◌∙◌, ◌≤◌, refl, arith, drop, slice_get, take}
-use Rattle.std.proofs.lemmas.List.{length-append, append_assoc, append-nil, drop-append-le, drop-take, drop_all, length-take, map-append, take_more}
-use Rattle.std.proofs.lemmas.Option.{get_or_from_slice_get, slice_get_within}
 use Rattle.c11_macros.specs.Call.{Call, call_of, call_step, onto, apart, Role, opening, closing, comma, other, role_of, onto_argument}
-use Rattle.c11_macros.specs.Hidden.{Hidden}
-use Rattle.sc_base.specs.declared.id.Name.{Name}
+use Rattle.sc_expand.proofs.Facts.{append-nil, append_assoc, drop-append-le, drop-take, drop_all, get_or_from_slice_get, length-append, length-take, map-append, slice_get_within, take_more}
+use Rattle.sc_expand.proofs.Terms.{HiddenToken as Hidden, IsParting, Name, begun_with, depth_behind, parted, parting_step, seen_arguments, seen_hidden, seen_list}
 use Rattle.sc_subst.specs.declared.hidden.Hidden as declared
-use Rattle.sc_subst.specs.Parts.{seen_arguments, seen_list}
-use Rattle.sc_subst.specs.Seen.{seen_hidden}
-use Rattle.sc_expand.specs.Arguments.{begun_with, depth_behind, IsParting, parted, parting_step}
 
 module _ {P : Type 0} where
   -- what a call is that begins with a token

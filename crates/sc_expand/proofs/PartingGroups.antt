@@ -1,22 +1,9 @@
 -- No comma parts arguments in a group of inner parentheses (C11 6.10.3p11).
-use Rattle.std.proofs.Common.{◌≡◌, ◌<◌, ◌≤◌, ℕ, zero, suc, ◌+◌, ◌-◌, Bool, true, false, List, [], ◌∷◌, ◌++◌, length, map, Option, Some, None, if◌then◌else◌, ap, sym, ◌∙◌, refl, arith, drop, get_or, take}
-use Rattle.std.proofs.Math.Seq.{take-append-add}
-use Rattle.std.proofs.lemmas.List.{append_assoc, drop-append-le, drop-drop, drop_more, length-take-le, map-append, take-append-drop}
-use Rattle.std.proofs.lemmas.Option.{slice_get-get_or}
-use Rattle.std.specs.Prelude.{codes}
-use Rattle.std.specs.Option.{option_map}
-use Rattle.c11_macros.specs.Call.{opening, closing, comma, other, onto_argument}
-use Rattle.c11_macros.specs.Hidden.{Hidden}
-use Rattle.sc_base.specs.declared.id.Name.{Name}
-use Rattle.sc_model.specs.Bytes.{same_bytes}
-use Rattle.sc_expand.specs.Arguments.{begun_with, parted, parting_step}
-use Rattle.sc_expand.specs.Parting.{parted_with}
+use Rattle.std.proofs.Common.{◌≡◌, ◌<◌, ◌≤◌, ℕ, zero, suc, ◌+◌, ◌-◌, Bool, true, false, List, [], ◌∷◌, ◌++◌, length, map, Option, Some, None, if◌then◌else◌, ap, sym, ◌∙◌, refl, arith, drop, get_or, take, codes}
+use Rattle.sc_expand.proofs.Facts.{append_assoc, blank, drop-append-le, drop-drop, drop_more, length-take-le, map-append, slice_get-get_or, take-append-add, take-append-drop}
+use Rattle.sc_expand.proofs.Terms.{HiddenToken as Hidden, IsParenthesized, Name, begun_with, closing, comma, group_end, group_step, onto_argument, opening, option_map, other, parted, parted_with, parting_step, same_bytes, seen_arguments, seen_hidden, seen_list}
 use Rattle.sc_expand.specs.declared.arguments.Parting.{Parting}
-use Rattle.sc_subst.proofs.Quoting.{blank}
 use Rattle.sc_subst.specs.declared.hidden.Hidden as declared
-use Rattle.sc_subst.specs.Groups.{IsParenthesized, group_end, group_step}
-use Rattle.sc_subst.specs.Parts.{seen_arguments, seen_list}
-use Rattle.sc_subst.specs.Seen.{seen_hidden}
 
 module _ {A : Type 0} where
   -- items before the first of these lists, and others before those

@@ -1,13 +1,9 @@
 -- The places that the expansion of a list comes to, name by name: there is one way from each to the
 -- next.
 use Rattle.std.proofs.Common.{◌≡◌, ℕ, ◌+◌, ◌≤◌, List, [], ◌∷◌, ◌++◌, append_assoc, drop, length, length-append, refl, sym, ap, ◌∙◌, subst, arith}
-use Rattle.std.proofs.lemmas.List.{drop-drop, drop_at, length-drop}
-use Rattle.c11_macros.proofs.OneRun.{one-run}
-use Rattle.c11_macros.proofs.Resuming.{leaves-source}
 use Rattle.c11_macros.proofs.Settling.{First, first_passed, none_passed, passes-first}
-use Rattle.c11_macros.specs.Hidden.{Hidden, Provenance}
-use Rattle.c11_macros.specs.Macros.{Macros}
-use Rattle.c11_macros.specs.Runs.{End, Passes, begins, goes_on, over, waits, Runs, Uses, used_up, stay, object, call}
+use Rattle.sc_expand.proofs.Facts.{drop-drop, drop_at, leaves-source, length-drop, one-run}
+use Rattle.sc_expand.proofs.Terms.{End, HiddenToken as Hidden, Macros, Passes, Provenance, Runs, Uses, begins, call, goes_on, object, over, stay, used_up, waits}
 
 module _ {P : Type 0} (provenance : Provenance P) (macros : Macros) where
   -- a run that is over took what stood before what is left

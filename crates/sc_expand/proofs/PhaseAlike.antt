@@ -1,57 +1,28 @@
 -- Configurations that expand one name alike take the same tokens of the list, and have the same of
 -- what was made after each turn.
 use Rattle.std.proofs.Common.{◌≡◌, ◌⊎◌, inl, inr, ℕ, suc, ◌+◌, ◌-◌, ◌<◌, ◌≤◌, Bool, true, false, true≢false, IsTrue, List, [], ◌∷◌, codes, drop, length, map, take, slice_get, Option, None, Some, refl, sym, ap, subst, ◌∙◌, arith, if◌then◌else◌}
-use Rattle.std.proofs.lemmas.List.{length-map, take_all}
-use Rattle.c11_macros.specs.Defines.{is_function_like}
-use Rattle.c11_macros.specs.Expansion.{IsWithin, is_looked_up}
-use Rattle.c11_macros.specs.Hidden as model
-use Rattle.c11_macros.specs.Macros.{Definition, Macros}
-use Rattle.c11_macros.specs.Trace.{Agree}
-use Rattle.sc_base.specs.declared.id.Cond.{Cond}
-use Rattle.sc_base.specs.declared.place.Place.{Place}
-use Rattle.sc_base.specs.Seen.{text_at}
-use Rattle.sc_expand.proofs.AlikeRunning.{seen-first}
-use Rattle.sc_expand.proofs.Lower.{lower-min}
 use Rattle.sc_expand.proofs.AlikeGathering.{same-call}
+use Rattle.sc_expand.proofs.AlikeRunning.{seen-first}
 use Rattle.sc_expand.proofs.AlikeTaking.{alike-first}
 use Rattle.sc_expand.proofs.Behind.{below}
+use Rattle.sc_expand.proofs.Facts.{IsConfig-Keeps, cons-some, length-map, take_all}
 use Rattle.sc_expand.proofs.GatherCases.{spellings}
 use Rattle.sc_expand.proofs.GatherPlaces.{spelled-behind}
+use Rattle.sc_expand.proofs.Lower.{lower-min}
+use Rattle.sc_expand.proofs.MachineLemmas.{pending_at, stands-cases, state-top}
 use Rattle.sc_expand.proofs.NameRuns.{IsInFront, StateRuns}
 use Rattle.sc_expand.proofs.NameUses.{state-looks}
-use Rattle.sc_expand.proofs.MachineLemmas.{pending_at, stands-cases, state-top}
 use Rattle.sc_expand.proofs.PhaseCalls.{Defined, closed-takes, function-of, span-count}
 use Rattle.sc_expand.proofs.PhaseMoves.{takes-pending}
-use Rattle.sc_expand.proofs.Phases.{IsReady, PairStands, Phase, Spans, as_one, bound_of, come_through, last_at, state_now}
 use Rattle.sc_expand.proofs.PhaseSpans.{IsInside, here, inside-span}
+use Rattle.sc_expand.proofs.Phases.{IsReady, PairStands, Phase, Spans, as_one, bound_of, come_through, last_at, state_now}
 use Rattle.sc_expand.proofs.PlainNames.{covers-then}
 use Rattle.sc_expand.proofs.PlainTurns.{under}
 use Rattle.sc_expand.proofs.Rests.{first-is, next-token}
 use Rattle.sc_expand.proofs.RunLemmas.{IsRunning, running-stands}
 use Rattle.sc_expand.proofs.SpanCalls.{behind-alike, span-bare, span-closed, span-opened}
-use Rattle.sc_expand.specs.Alike.{CallNextAlike, DefineNextAlike, IsAlikeExpansion, IsFirstIn, IsFunctionLike, IsSameCall, Others, TakesName, others_at}
-use Rattle.sc_expand.specs.declared.call.Call.{Call}
-use Rattle.sc_expand.specs.declared.expansion.Expansion.{Expansion}
-use Rattle.sc_expand.specs.declared.frame.Enclosing.{Enclosing}
-use Rattle.sc_expand.specs.declared.frame.Frame.{Frame}
+use Rattle.sc_expand.proofs.Terms.{Agree, AreAlike, Call, CallEnd, CallNextAlike, Cond, DefineNextAlike, Definition, Enclosing, Expansion, Frame, Grows, Hidden, HiddenToken, IsAlikeExpansion, IsConfig, IsFirstIn, IsFunctionLike, IsHeldExpansion, IsPending, IsSameCall, IsTurned, IsWithin, Macros, Others, Place, Stores, TakesName, alone, bare, behind_at, bottom, bottom_by, call_end, call_end_at, call_length, calls_at, closed, is_function_like, is_looked_up, items_at, lower_of, of_item, others_at, provenance_of, same_bytes, scanning, seen_at, seen_hidden, spelled_at, state_by, state_in, still, text_at, text_of, tokens_in, view_at}
 use Rattle.sc_expand.specs.FootprintSteps as footprint
-use Rattle.sc_expand.specs.FootprintSteps.{IsPending, lower_of}
-use Rattle.sc_expand.specs.Having.{behind_at, tokens_in}
-use Rattle.sc_expand.specs.Machine.{IsHeldExpansion, state_in}
-use Rattle.sc_expand.specs.Plain.{scanning}
-use Rattle.sc_expand.specs.Running.{IsTurned, bottom, bottom_by}
-use Rattle.sc_expand.specs.Seen.{Grows, Stores, calls_at, provenance_of, seen_at, state_by, view_at}
-use Rattle.sc_expand.specs.Spans.{of_item}
-use Rattle.sc_guarded.specs.Items.{items_at}
-use Rattle.sc_hoist.specs.Alike.{AreAlike}
-use Rattle.sc_hoist.specs.Calls.{CallEnd, alone, bare, call_end, call_end_at, call_length, closed, spelled_at, still}
-use Rattle.sc_macro.specs.Seen.{text_of}
-use Rattle.sc_model.proofs.SetLemmas.{IsConfig-Keeps}
-use Rattle.sc_model.specs.Bytes.{same_bytes}
-use Rattle.sc_model.specs.Sets.{IsConfig}
-use Rattle.sc_subst.specs.declared.hidden.Hidden.{Hidden}
-use Rattle.sc_subst.specs.Seen.{seen_hidden}
-use Rattle.c11_macros.proofs.CallEnds.{cons-some}
 
 -- ---- the first token
 
@@ -112,13 +83,13 @@ module _ (files : List (List ℕ)) (macros : List ℕ → Macros) (names : List 
   -- the whole list is on top, and the configuration's name stands first
   module _ (now : Stores) (e : Expansion) (no_below : e.below.items ≡ []) (n bound : ℕ) (few : suc n ≤ length e.top.work) (c : List ℕ) (x : TakesName now (macros c) e c)
       (looks : List (List ℕ)) (inside : IsInside files macros now e n bound looks c) where
-    abbrev pub t : model.Hidden Place
+    abbrev pub t : HiddenToken Place
     t = seen_hidden now.names now.hides x.item.1
 
-    abbrev pub out : List (model.Hidden Place)
+    abbrev pub out : List (HiddenToken Place)
     out = seen_at now e.top.out c
 
-    abbrev pub rest : List (model.Hidden Place)
+    abbrev pub rest : List (HiddenToken Place)
     rest = seen_at now (drop 1 e.top.work) c
 
     pub at_top : bottom e ≡ e.top

@@ -1,26 +1,12 @@
 -- The call of a name that stands first in the whole list, as the run of the list tells it.
 use Rattle.std.proofs.Common.{◌≡◌, ◌⊎◌, inl, inr, ℕ, zero, suc, ◌+◌, ◌-◌, ◌<◌, ◌≤◌, Bool, true, false, List, [], ◌∷◌, ◌++◌, drop, length, take, Option, Some, None, IsTrue, refl, ap, subst, ◌∙◌, arith, if◌then◌else◌, is_some}
-use Rattle.std.proofs.lemmas.Bool.{cases_lt, le-ltb, lt-ltb}
-use Rattle.std.proofs.lemmas.List.{length-append}
-use Rattle.c11_macros.specs.Call.{arguments_for}
-use Rattle.c11_macros.specs.Defines.{is_function_like}
-use Rattle.c11_macros.specs.Expansion.{case_of, fitted_case, is_looked_up, stays, unclosed}
-use Rattle.c11_macros.specs.Hidden.{Hidden, Provenance}
-use Rattle.c11_macros.specs.Macros.{Definition, Form, Macros, Rest, function_like, object_like}
-use Rattle.c11_macros.specs.Runs.{End, Uses}
-use Rattle.sc_base.specs.declared.id.Cond.{Cond}
 use Rattle.sc_expand.proofs.Behind.{below, below-items}
+use Rattle.sc_expand.proofs.Facts.{cases_lt, le-ltb, length-append, lt-ltb}
 use Rattle.sc_expand.proofs.GatherCases.{Closed, case-closed, case-still, case-uncalled-alone, case-uncalled-bare, closed-call, spellings}
 use Rattle.sc_expand.proofs.NameRuns.{StateRuns}
 use Rattle.sc_expand.proofs.NameUses.{Closes, state-closes}
-use Rattle.sc_expand.specs.Alike.{IsFunctionLike}
-use Rattle.sc_expand.specs.Arguments.{parted}
-use Rattle.sc_expand.specs.Having.{behind_at}
+use Rattle.sc_expand.proofs.Terms.{CallEnd, Cond, Definition, End, Form, HiddenToken as Hidden, IsFunctionLike, Macros, Moves, Provenance, Rest, Sets, State, Uses, alone, arguments_for, bare, behind_at, call_end, call_length, case_of, closed, fitted_case, function_like, is_function_like, is_looked_up, items_at, object_like, parted, scanning, stays, still, unclosed}
 use Rattle.sc_expand.specs.Plain as plain
-use Rattle.sc_expand.specs.Plain.{Moves, State, scanning}
-use Rattle.sc_guarded.specs.Items.{items_at}
-use Rattle.sc_hoist.specs.Calls.{CallEnd, alone, bare, call_end, call_length, closed, still}
-use Rattle.sc_model.specs.Sets.{Sets}
 
 -- ---- the steps of one configuration
 

@@ -1,19 +1,11 @@
 -- The items of a list at a configuration: how many tokens stand from each on, and what it becomes
 -- where the configuration comes to it.
 use Rattle.std.proofs.Common.{◌≡◌, ℕ, suc, ◌+◌, ◌-◌, ◌≤◌, List, [], ◌∷◌, Some, drop, length, slice_get, sym, ap, ◌∙◌, subst, arith}
-use Rattle.std.proofs.lemmas.List.{drop-drop, length-drop}
-use Rattle.std.proofs.lemmas.Option.{get_or_from_slice_get, slice_get_within}
-use Rattle.std.proofs.Math.Seq.{drop-cons}
-use Rattle.c11_macros.specs.Hidden as model
-use Rattle.c11_macros.specs.Macros.{Macros}
-use Rattle.c11_macros.specs.Runs.{End, Passes, Runs, Uses}
-use Rattle.sc_base.specs.declared.place.Place.{Place}
+use Rattle.sc_expand.proofs.Facts.{drop-cons, drop-drop, get_or_from_slice_get, length-drop, slice_get_within}
 use Rattle.sc_expand.proofs.PassesLaws.{passes-end, run-same}
 use Rattle.sc_expand.proofs.PhaseLists.{same-end, seen-drop, seen-name, slice-drop}
 use Rattle.sc_expand.proofs.Phases.{Comes, HasItem, tokens_from}
-use Rattle.sc_expand.specs.declared.expansion.Expansion.{Expansion}
-use Rattle.sc_expand.specs.Seen.{Stores, provenance_of, seen_at}
-use Rattle.sc_subst.specs.Seen.{seen_hidden}
+use Rattle.sc_expand.proofs.Terms.{End, Expansion, HiddenToken, Macros, Passes, Place, Runs, Stores, Uses, provenance_of, seen_at, seen_hidden}
 
 drop-slice : {A : Type 0} (n : ℕ) (xs : List A) (x : A) → slice_get xs n ≡ Some x → drop n xs ≡ x ∷ drop (n + 1) xs
 drop-slice n xs x is =
@@ -33,7 +25,7 @@ module _ (files : List (List ℕ)) (macros : List ℕ → Macros) (old : Stores)
   pub come-many : Comes files macros old was at c → length (tokens_from old was at c) ≡ suc (length (tokens_from old was (at + 1) c))
   come-many x = ap length (seen-name old (drop at was.top.work) (drop (at + 1) was.top.work) x.item c (drop-slice at was.top.work x.item x.is) x.has)
 
-  module _ (item : HasItem old was at c) {before rest : List (model.Hidden Place)} {t : model.Hidden Place} (passes : Passes (provenance_of files) (macros c) (seen_at old was.top.work c) before (t ∷ rest))
+  module _ (item : HasItem old was at c) {before rest : List (HiddenToken Place)} {t : HiddenToken Place} (passes : Passes (provenance_of files) (macros c) (seen_at old was.top.work c) before (t ∷ rest))
       (long : length rest ≡ length (tokens_from old was (at + 1) c)) where
     -- a name that so many tokens stand behind is the item's
     pub item-is : t ∷ rest ≡ seen_hidden old.names old.hides item.item.1 ∷ tokens_from old was (at + 1) c
@@ -44,7 +36,7 @@ module _ (files : List (List ℕ)) (macros : List ℕ → Macros) (old : Stores)
         (sym (seen-name old (drop at was.top.work) (drop (at + 1) was.top.work) item.item c item.first item.has) ∙ there.1) (ap suc long)
 
     -- it becomes what the name becomes
-    abbrev pub comes-by : {done : List (model.Hidden Place)} {end : End Place} {u : Uses Place} → Runs (provenance_of files) (macros c) (t ∷ []) rest done end u → Comes files macros old was at c
+    abbrev pub comes-by : {done : List (HiddenToken Place)} {end : End Place} {u : Uses Place} → Runs (provenance_of files) (macros c) (t ∷ []) rest done end u → Comes files macros old was at c
     comes-by {done} {end} {u} runs = record {
       item = item.item;
       is = slice-drop at was.top.work item.item (drop (at + 1) was.top.work) item.first;

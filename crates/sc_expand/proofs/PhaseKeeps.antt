@@ -1,32 +1,18 @@
 -- What a turn keeps of the item that is being expanded, and what is kept of first tokens that are
 -- gone.
 use Rattle.std.proofs.Common.{◌≡◌, ℕ, suc, ◌+◌, ◌-◌, ◌<◌, ◌≤◌, ◌&&◌, nat_lt, Bool, true, false, true≢false, List, [], ◌∷◌, ◌++◌, All, append-nil, append_assoc, drop, length, length-append, map, Some, slice_get, take, refl, sym, ap, subst, ◌∙◌, arith, inl, inr, ◌⊎◌, if◌then◌else◌}
-use Rattle.std.proofs.lemmas.Bool.{and_parts, cases_eq, cases_lt, eq-eqb, le-ltb, lt-ltb, ne_eqb}
-use Rattle.std.proofs.lemmas.List.{length-drop, length-map}
-use Rattle.std.proofs.lemmas.List.Elements.{All-cons, All-head, All-nil, All-tail}
-use Rattle.c11_macros.specs.Macros.{Macros}
-use Rattle.sc_base.specs.declared.id.Cond.{Cond}
 use Rattle.sc_expand.proofs.AlikeLemmas.{All-but-tail}
 use Rattle.sc_expand.proofs.AlikeTaking.{alike-first}
 use Rattle.sc_expand.proofs.Behind.{Fall, Fall-weaker, below, below-all, below-has, below-not}
+use Rattle.sc_expand.proofs.Facts.{All-cons, All-head, All-nil, All-tail, IsConfig-Keeps, and_parts, cases_eq, cases_lt, eq-eqb, le-ltb, length-drop, length-map, lt-ltb, ne_eqb}
 use Rattle.sc_expand.proofs.NamedItems.{indexes-append, indexes-Keeps, indexes-long, item-none, item-one, item-whole}
 use Rattle.sc_expand.proofs.PhaseLists.{length-seen, same-drop}
 use Rattle.sc_expand.proofs.RunLemmas.{IsRunning, running-apart}
 use Rattle.sc_expand.proofs.SeenLemmas.{seen_at-Grows, seen_at-append}
-use Rattle.sc_expand.specs.declared.expansion.Expansion.{Expansion}
-use Rattle.sc_expand.specs.Having.{behind_at}
+use Rattle.sc_expand.proofs.Terms.{AreAlike, Cond, Expansion, Grows, Hidden, IsAlike, IsCond, IsConfig, IsRestricted, Macros, Sets, Stores, behind_at, indexes_in, items_at, of_item, seen_at, seen_hidden}
 use Rattle.sc_expand.specs.Running as running
 use Rattle.sc_expand.specs.Running.{KeepsLeft, KeepsNext, Rest, bottom, bottom_by, put, took}
-use Rattle.sc_expand.specs.Seen.{Grows, Stores, seen_at}
-use Rattle.sc_expand.specs.Spans.{indexes_in, of_item}
 use Rattle.sc_expand.specs.Unchanged as unchanged
-use Rattle.sc_expand.specs.Unchanged.{IsRestricted}
-use Rattle.sc_guarded.specs.Items.{items_at}
-use Rattle.sc_hoist.specs.Alike.{AreAlike, IsAlike}
-use Rattle.sc_model.proofs.SetLemmas.{IsConfig-Keeps}
-use Rattle.sc_model.specs.Sets.{IsCond, IsConfig, Sets}
-use Rattle.sc_subst.specs.declared.hidden.Hidden.{Hidden}
-use Rattle.sc_subst.specs.Seen.{seen_hidden}
 
 pub none-long : {A : Type 0} (xs : List A) → length xs ≡ 0 → xs ≡ []
 none-long [] none = refl

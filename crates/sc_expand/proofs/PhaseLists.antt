@@ -1,18 +1,9 @@
 -- What is left of a list: its last items, and those of them that a configuration has.
 use Rattle.std.proofs.Common.{◌≡◌, ◌⊎◌, inl, inr, ℕ, zero, suc, ◌-◌, ◌<◌, ◌≤◌, Bool, true, false, List, [], ◌∷◌, Some, map, take, drop, length, slice_get, refl, sym, ap, subst, ◌∙◌, arith, if◌then◌else◌}
-use Rattle.std.proofs.lemmas.Bool.{cases_lt}
-use Rattle.std.proofs.lemmas.List.Elements.{All-cons, All-head, All-nil, All-tail}
-use Rattle.std.proofs.lemmas.List.{drop_all, drop_at, length-drop, length-map, take-append-drop, take_all}
-use Rattle.sc_base.specs.declared.id.Cond.{Cond}
 use Rattle.sc_expand.proofs.Behind.{Fall, Fall-weaker, behind-falls, below, below-all, below-has, below-not, length-behind}
+use Rattle.sc_expand.proofs.Facts.{All-cons, All-head, All-nil, All-tail, cases_lt, drop_all, drop_at, length-drop, length-map, take-append-drop, take_all}
 use Rattle.sc_expand.proofs.SeenLemmas.{seen_at-append}
-use Rattle.sc_expand.specs.Having.{behind_at}
-use Rattle.sc_expand.specs.Seen.{Stores, seen_at}
-use Rattle.sc_guarded.specs.Items.{items_at}
-use Rattle.sc_hoist.specs.Alike.{AreAlike, IsAlike}
-use Rattle.sc_model.specs.Sets.{Sets}
-use Rattle.sc_subst.specs.declared.hidden.Hidden.{Hidden}
-use Rattle.sc_subst.specs.Seen.{seen_hidden}
+use Rattle.sc_expand.proofs.Terms.{AreAlike, Cond, Hidden, IsAlike, Sets, Stores, behind_at, items_at, seen_at, seen_hidden}
 
 -- the end of a list is told by its length
 pub same-drop : {A : Type 0} (a b : ℕ) (xs : List A) → length (drop a xs) ≡ length (drop b xs) → drop a xs ≡ drop b xs

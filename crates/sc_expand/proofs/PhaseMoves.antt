@@ -1,44 +1,27 @@
 -- A phase stays one through a turn: where the configurations stand, and which of its own items each
 -- has left.
 use Rattle.std.proofs.Common.{◌≡◌, ◌⊎◌, inl, inr, ℕ, ◌+◌, ◌<◌, ◌≤◌, Bool, true, false, true≢false, List, [], ◌∷◌, ◌++◌, drop, length, map, Some, None, slice_get, take, refl, sym, ap, subst, ◌∙◌, arith, if◌then◌else◌}
-use Rattle.std.proofs.lemmas.List.{drop-drop, take-append-le}
-use Rattle.std.proofs.lemmas.List.Elements.{All-pop}
-use Rattle.c11_macros.specs.Hidden as model
-use Rattle.c11_macros.specs.Macros.{Macros}
-use Rattle.sc_base.specs.declared.id.Cond.{Cond}
-use Rattle.sc_base.specs.declared.place.Place.{Place}
-use Rattle.sc_expand.proofs.UnchangedLemmas.{never-empty}
-use Rattle.sc_expand.proofs.PhaseKeeps.{below-most}
-use Rattle.sc_expand.proofs.PhaseLists.{length-seen}
-use Rattle.sc_expand.proofs.Lower.{lower-all, lower-is, lower-min}
 use Rattle.sc_expand.proofs.Behind.{below, below-not, last-below, last-fewer, last-suffix, more-same}
+use Rattle.sc_expand.proofs.Facts.{All-pop, IsConfig-Keeps, drop-drop, take-append-le}
+use Rattle.sc_expand.proofs.Lower.{lower-all, lower-is, lower-min}
 use Rattle.sc_expand.proofs.MachineCalls.{calls_at-append}
 use Rattle.sc_expand.proofs.MachineLemmas.{IsBelow, IsOnTop, alone, called_in, goes, no-move, progress-step, stands-cases, stops}
-use Rattle.sc_expand.proofs.Phases.{IsReady, Phase, last_at, state_now, tokens_from}
+use Rattle.sc_expand.proofs.PhaseKeeps.{below-most}
+use Rattle.sc_expand.proofs.PhaseLists.{length-seen}
 use Rattle.sc_expand.proofs.PhaseSegments.{held-take}
+use Rattle.sc_expand.proofs.Phases.{IsReady, Phase, last_at, state_now, tokens_from}
 use Rattle.sc_expand.proofs.Placed.{Placed, placed-move}
 use Rattle.sc_expand.proofs.Rests.{next-argument, next-call, next-token}
 use Rattle.sc_expand.proofs.RunLemmas.{IsRunning, running-stands, turned-at}
 use Rattle.sc_expand.proofs.SeenLemmas.{seen_at-Grows}
+use Rattle.sc_expand.proofs.Terms.{AreHeld, Call, Cond, Enclosing, Expansion, Grows, Hidden, HiddenToken, IsAbsent, IsConfig, IsHeldExpansion, IsPending, Macros, Moves, Place, Sets, Stands, State, Stores, View, Waiting, at, behind_at, calls_at, expanding, items_at, lower_of, no_view, provenance_of, scanning, seen_at, seen_hidden, state_by, state_in, state_of, view_at, waiting, waiting_at}
 use Rattle.sc_expand.proofs.Turning.{put_by-held}
-use Rattle.sc_expand.specs.declared.call.Call.{Call}
-use Rattle.sc_expand.specs.declared.expansion.Expansion.{Expansion}
-use Rattle.sc_expand.specs.declared.frame.Enclosing.{Enclosing}
+use Rattle.sc_expand.proofs.UnchangedLemmas.{never-empty}
 use Rattle.sc_expand.specs.FootprintSteps as steps
-use Rattle.sc_expand.specs.FootprintSteps.{IsPending, lower_of}
-use Rattle.sc_expand.specs.Having.{behind_at}
 use Rattle.sc_expand.specs.Open as open_end
-use Rattle.sc_expand.specs.Machine.{IsAbsent, IsHeldExpansion, Stands, at, no_view, state_in}
-use Rattle.sc_expand.specs.Plain.{Moves, State, Waiting, expanding, scanning, waiting}
-use Rattle.sc_expand.specs.Running.{HasEnded, IsAsLong, IsTurned, Pushes, Rest, all, bottom, bottom_by, but_first, next_of, put, put_out, took}
 use Rattle.sc_expand.specs.Running as running
-use Rattle.sc_expand.specs.Seen.{AreHeld, Grows, Stores, View, calls_at, provenance_of, seen_at, state_by, state_of, view_at, waiting_at}
+use Rattle.sc_expand.specs.Running.{HasEnded, IsAsLong, IsTurned, Pushes, Rest, all, bottom, bottom_by, but_first, next_of, put, put_out, took}
 use Rattle.sc_expand.specs.Unchanged as unchanged
-use Rattle.sc_guarded.specs.Items.{items_at}
-use Rattle.sc_model.proofs.SetLemmas.{IsConfig-Keeps}
-use Rattle.sc_model.specs.Sets.{IsConfig, Sets}
-use Rattle.sc_subst.specs.declared.hidden.Hidden.{Hidden}
-use Rattle.sc_subst.specs.Seen.{seen_hidden}
 
 -- ---- what a configuration has of lists
 
@@ -59,7 +42,7 @@ first-more s (x ∷ xs) item c n first has far = by (s.has x.0.0 c) (ap (λ (y :
 pub state-bottom : (st : Stores) (e : Expansion) (c : List ℕ) → steps.bottom (state_now st e c) ≡ seen_at st (bottom e).work c
 state-bottom st e c = by e.below.items
   where
-    of : (out work : List (model.Hidden Place)) (ws : List (Waiting Place)) → steps.bottom (state_by out work ws) ≡ work
+    of : (out work : List (HiddenToken Place)) (ws : List (Waiting Place)) → steps.bottom (state_by out work ws) ≡ work
     of out work [] = refl
     of out work (w ∷ ws) = refl
 
@@ -317,13 +300,13 @@ module _ (files : List (List ℕ)) (macros : List ℕ → Macros)
         let m = has-moved c listed live in
         subst (λ l. Placed (provenance_of files) (macros c) list (phase.came c) behind l (state_now new after c) (last_at new after phase.n c)) (sym (start-later c listed)) (by m.step m.own (phase.place c listed m.live))
       where
-        list : List (model.Hidden Place)
+        list : List (HiddenToken Place)
         list = seen_at old was.top.work c
 
         behind : ℕ
         behind = length (tokens_from old was phase.next c)
 
-        start : List (model.Hidden Place)
+        start : List (HiddenToken Place)
         start = seen_at now (take phase.outs (put_out e)) c
 
         by : Step c → last_at new after phase.n c ≡ lower_of (length (steps.bottom (state_now new after c))) (last_at now e phase.n c)

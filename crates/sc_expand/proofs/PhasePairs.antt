@@ -1,19 +1,10 @@
 -- Configurations that expand one name alike, through a turn: they have the same of what was made,
 -- or come through the name together.
 use Rattle.std.proofs.Common.{◌≡◌, ◌⊎◌, inl, inr, ℕ, zero, suc, ◌+◌, ◌-◌, ◌<◌, ◌≤◌, ◌&&◌, Bool, true, false, true≢false, List, [], ◌∷◌, ◌++◌, All, append-nil, drop, length, length-append, None, Some, slice_get, take, refl, sym, ap, subst, ◌∙◌, arith, if◌then◌else◌}
-use Rattle.std.proofs.Math.Bool.{and-false}
-use Rattle.std.proofs.lemmas.Bool.{false_from_ne_true}
-use Rattle.std.proofs.lemmas.List.{length-map}
-use Rattle.std.proofs.lemmas.List.Elements.{All-append, All-cons, All-drop, All-nil}
-use Rattle.c11_macros.specs.Expansion.{IsWithin, case_of, stays, unclosed}
-use Rattle.c11_macros.specs.Hidden as model
-use Rattle.c11_macros.specs.Hidden.{Failure, Provenance}
-use Rattle.c11_macros.specs.Macros.{Macros}
-use Rattle.sc_base.specs.declared.id.Cond.{Cond}
-use Rattle.sc_base.specs.declared.place.Place.{Place}
 use Rattle.sc_expand.proofs.AlikeLemmas.{AreAlike-Keeps}
 use Rattle.sc_expand.proofs.AlikeRunning.{seen-first}
 use Rattle.sc_expand.proofs.Behind.{below, Fall, behind-falls, below-all, below-not}
+use Rattle.sc_expand.proofs.Facts.{All-append, All-cons, All-drop, All-nil, IsConfig-Keeps, IsConfig-kept, and-false, false_from_ne_true, items_at-Keeps, items_at-append, length-map}
 use Rattle.sc_expand.proofs.GatherPlaces.{spelled-behind}
 use Rattle.sc_expand.proofs.Lower.{lower-min}
 use Rattle.sc_expand.proofs.NamedItems.{indexes-long, item-all, item-append, item-lacks, item-whole, lacks-alike, same-name-Keeps, same-name-more, first-alone, item-none}
@@ -21,42 +12,24 @@ use Rattle.sc_expand.proofs.PhaseAlike.{IsLast, alike-after, calls-or-last, firs
 use Rattle.sc_expand.proofs.PhaseCalls.{below-fewer, function-of, span-count, stays-moves, unclosed-ends, uncalled-case}
 use Rattle.sc_expand.proofs.PhaseKeeps.{more-alike, more-at, more-count, more-has, more-lacks, more-of, more-same, none-long, same-slice, more-first-had, more-idle, more-once}
 use Rattle.sc_expand.proofs.PhaseLists.{length-seen, slice-drop}
-use Rattle.sc_expand.proofs.PhaseSegments.{kept-none}
 use Rattle.sc_expand.proofs.PhaseMoves.{ended-state, first-far, first-more, moved-pending, rest-own, takes-pending, has-moved, moved-fits, moved-place, moved-suffix}
+use Rattle.sc_expand.proofs.PhaseSegments.{kept-none}
+use Rattle.sc_expand.proofs.PhaseWaits.{before-later, begins-at, begins-later, behind-later, kept-later-is, kept-own, low-later, waits-later}
 use Rattle.sc_expand.proofs.Phases.{IsOver, IsReady, PairStands, Phase, Spans, as_one, bound_of, come_through, last_at, state_now, Begins, Comes, IsFresh, IsWorn, Itself, at_item, at_start, tokens_from}
 use Rattle.sc_expand.proofs.PlainSettles.{no-fails, no-moves, no-waits}
 use Rattle.sc_expand.proofs.Rests.{first-is, next-token}
 use Rattle.sc_expand.proofs.RunLemmas.{IsRunning, bottom-state, running-apart, running-stands, turned-at, running-turned}
 use Rattle.sc_expand.proofs.SeenLemmas.{seen_at-Grows, seen_at-append, Grows-trans}
+use Rattle.sc_expand.proofs.Terms.{AreAlike, AreHeld, CallNextAlike, Cond, Enclosing, Expansion, Fails, Failure, Grows, HasEnded, Hidden, HiddenToken, IsAlike, IsAlikeExpansion, IsAlikeFrame, IsCond, IsConfig, IsHeldExpansion, IsPending, IsSameName, IsTurned, IsWithin, Macros, Moves, Others, Place, Progress, Provenance, Pushes, Stands, State, Stores, TakesName, Waits, at, behind_at, bottom, bottom_by, call_end, call_end_at, calls_at, case_of, closed, expanding, items_at, left_at, lower_of, of_item, others_at, provenance_of, put_by, put_out, scanning, seen_at, seen_hidden, state_by, state_in, stays, tokens_in, unclosed, view_at, waiting}
 use Rattle.sc_expand.proofs.Turning.{put_by-held}
-use Rattle.sc_expand.specs.Alike.{CallNextAlike, IsAlikeExpansion, IsAlikeFrame, Others, TakesName, others_at}
-use Rattle.sc_expand.specs.declared.expansion.Expansion.{Expansion}
-use Rattle.sc_expand.specs.declared.frame.Enclosing.{Enclosing}
-use Rattle.sc_expand.specs.FootprintSteps.{IsPending, lower_of}
-use Rattle.sc_expand.specs.Having.{behind_at, tokens_in}
 use Rattle.sc_expand.specs.Machine as machine
-use Rattle.sc_expand.specs.Machine.{IsHeldExpansion, Progress, Stands, at, state_in}
 use Rattle.sc_expand.specs.Open as open_end
 use Rattle.sc_expand.specs.Plain as plain
-use Rattle.sc_expand.specs.Plain.{Fails, Moves, State, expanding, scanning, waiting}
 use Rattle.sc_expand.specs.Running as running
-use Rattle.sc_expand.specs.Running.{HasEnded, IsTurned, Pushes, bottom, bottom_by, left_at, put_by, put_out}
-use Rattle.sc_expand.specs.Seen.{AreHeld, Grows, Stores, calls_at, provenance_of, seen_at, state_by, view_at}
 use Rattle.sc_expand.specs.Spans as spans
-use Rattle.sc_expand.specs.Spans.{IsSameName, of_item}
 use Rattle.sc_expand.specs.Turn as turn
 use Rattle.sc_expand.specs.Turn.{EndsBy, IsDecided, held_up, refused}
 use Rattle.sc_expand.specs.Unchanged as unchanged
-use Rattle.sc_guarded.proofs.ItemLemmas.{items_at-Keeps, items_at-append}
-use Rattle.sc_guarded.specs.Items.{items_at}
-use Rattle.sc_hoist.specs.Alike.{AreAlike, IsAlike}
-use Rattle.sc_hoist.specs.Calls.{call_end, call_end_at, closed}
-use Rattle.sc_model.proofs.SetLemmas.{IsConfig-Keeps, IsConfig-kept}
-use Rattle.sc_model.specs.Sets.{IsCond, IsConfig}
-use Rattle.sc_subst.specs.declared.hidden.Hidden.{Hidden}
-use Rattle.sc_subst.specs.Seen.{seen_hidden}
-use Rattle.sc_expand.proofs.PhaseWaits.{before-later, begins-at, begins-later, behind-later, kept-later-is, kept-own, low-later, waits-later}
-use Rattle.sc_expand.specs.Open.{Waits}
 
 drop-more : {A : Type 0} (n : ℕ) (xs ys : List A) → n ≤ length xs → drop n (xs ++ ys) ≡ drop n xs ++ ys
 drop-more zero xs ys le = refl
@@ -64,7 +37,7 @@ drop-more (suc n) [] ys le = absurd (omega (arith, le))
 drop-more (suc n) (x ∷ xs) ys le = drop-more n xs ys (omega (arith, le))
 
 -- a name that is not called fails at no parenthesis of the list
-module _ (provenance : Provenance Place) (macros : Macros) (out rest : List (model.Hidden Place)) (t : model.Hidden Place) where
+module _ (provenance : Provenance Place) (macros : Macros) (out rest : List (HiddenToken Place)) (t : HiddenToken Place) where
   stays-fails : {failure : Failure Place} → case_of macros t rest ≡ stays → Fails provenance macros (scanning out (t ∷ rest)) failure → ⊥
   stays-fails case (plain.bad_object _ _ _ d failure is made) = cc
   stays-fails case (plain.open_call _ _ _ is) = cc
@@ -76,13 +49,13 @@ module _ (provenance : Provenance Place) (macros : Macros) (out rest : List (mod
   not-fails (inr case) fails decided = decided refl (open_end.open_call out rest t case)
 
 -- a state in which nothing is pending scans the whole list
-scans-now : (s : State Place) (left : ℕ) → (IsPending s left → ⊥) → (out : List (model.Hidden Place)) × (work : List (model.Hidden Place)) × (s ≡ scanning out work)
+scans-now : (s : State Place) (left : ℕ) → (IsPending s left → ⊥) → (out : List (HiddenToken Place)) × (work : List (HiddenToken Place)) × (s ≡ scanning out work)
 scans-now (scanning out work) left not = (out, work, refl)
 scans-now (waiting out work w) left not = absurd (not tt)
 scans-now (expanding out work w n s) left not = absurd (not tt)
 
 -- what waits does whatever was put out
-waits-after : {macros : Macros} {work : List (model.Hidden Place)} (out other : List (model.Hidden Place)) → Waits macros (scanning out work) → Waits macros (scanning other work)
+waits-after : {macros : Macros} {work : List (HiddenToken Place)} (out other : List (HiddenToken Place)) → Waits macros (scanning out work) → Waits macros (scanning other work)
 waits-after out other (open_end.alone _ rest t is) = open_end.alone other rest t is
 waits-after out other (open_end.open_call _ rest t is) = open_end.open_call other rest t is
 
@@ -256,13 +229,13 @@ module _ (files : List (List ℕ)) (macros : List ℕ → Macros) (names : List 
   -- The name was all that was made, and stands first; nothing of it is in the call of any.
   module _ (size : ℕ) (c : List ℕ) (listed : IsConfig old.sets.arities c) (x : TakesName now (macros c) e c) (whole : e.below.items ≡ []) (opens : call_end_at now.sets now.names (tokens_in e.top.work) 0 c ≡ closed → ⊥)
       (none : items_at now.sets (drop 1 (take (length e.top.work - lower_of (bound_of was phase.at size) phase.n) e.top.work)) c ≡ []) where
-    abbrev t : model.Hidden Place
+    abbrev t : HiddenToken Place
     t = seen_hidden now.names now.hides x.item.1
 
-    abbrev out : List (model.Hidden Place)
+    abbrev out : List (HiddenToken Place)
     out = seen_at now e.top.out c
 
-    abbrev rest : List (model.Hidden Place)
+    abbrev rest : List (HiddenToken Place)
     rest = seen_at now (drop 1 e.top.work) c
 
     work-is : seen_at now e.top.work c ≡ t ∷ rest
@@ -552,7 +525,7 @@ module _ (files : List (List ℕ)) (macros : List ℕ → Macros) (names : List 
         → (x : Comes files macros old was phase.at c) → Waits (macros c) (scanning [] (seen_hidden old.names old.hides x.item.1 ∷ tokens_from old was (phase.at + 1) c)) → ⊥
     went-on c listed here live x w = by (turned.which f.first.0 (next-token e f.first f.rest f.calls f.work) c ∙ f.has c listed here) (turned-at grows r began new after other same turned c listed)
       where
-        out : List (model.Hidden Place)
+        out : List (HiddenToken Place)
         out = seen_at now e.top.out c
 
         work-is : seen_at now e.top.work c ≡ seen_hidden old.names old.hides x.item.1 ∷ tokens_from old was (phase.at + 1) c

@@ -1,49 +1,21 @@
 -- What a phase has put out is that of its item, behind what was put out for those before it.
 use Rattle.std.proofs.Common.{◌≡◌, ◌⊎◌, inl, inr, ℕ, zero, suc, ◌+◌, ◌-◌, ◌<◌, ◌≤◌, Bool, true, false, true≢false, List, [], ◌∷◌, ◌++◌, All, append-nil, Some, Ok, Err, drop, flat_map, length, length-append, map, slice_get, take, refl, sym, ap, ◌∙◌, subst, arith}
-use Rattle.std.proofs.lemmas.Bool.{cases_lt, true_from_ne_false}
-use Rattle.std.proofs.lemmas.Grind.{flat_map-append}
-use Rattle.std.proofs.lemmas.List.{append_cancel_left, drop_all, length-drop, length-map, take-append-drop}
-use Rattle.std.proofs.lemmas.List.Elements.{All-drop, All-take}
-use Rattle.std.proofs.lemmas.Option.{slice_get_within}
-use Rattle.std.proofs.Math.Seq.{drop-append_seam, take-append_seam}
 use Rattle.c11_macros.proofs.SettlesLaws.{one-settled}
-use Rattle.c11_macros.specs.Hidden as model
-use Rattle.c11_macros.specs.Hidden.{Failure}
-use Rattle.c11_macros.specs.Macros.{Macros}
-use Rattle.c11_macros.specs.Runs.{Passes}
-use Rattle.sc_base.specs.declared.id.Cond.{Cond}
-use Rattle.sc_base.specs.declared.place.Place.{Place}
 use Rattle.sc_expand.proofs.Behind.{Fall-weaker, behind-falls, below, below-all, below-items}
-use Rattle.sc_expand.proofs.MachineLemmas.{IsTold}
+use Rattle.sc_expand.proofs.Facts.{All-drop, All-take, IsConfig-Keeps, append_cancel_left, cases_lt, drop-append_seam, drop_all, flat_map-append, items_at-Keeps, length-drop, length-map, slice_get-front, slice_get-seam, slice_get_within, take-append-drop, take-append_seam, true_from_ne_false}
 use Rattle.sc_expand.proofs.MachineLemmas as told
-use Rattle.sc_expand.proofs.PhaseLists.{length-seen}
-use Rattle.sc_expand.proofs.PhaseItems.{come-many, comes-by, from-later}
+use Rattle.sc_expand.proofs.MachineLemmas.{IsTold}
 use Rattle.sc_expand.proofs.NamedItems.{first-alone, indexes-long, item-all, item-append, item-lacks, item-none, same-name-Keeps}
+use Rattle.sc_expand.proofs.PhaseItems.{come-many, comes-by, from-later}
 use Rattle.sc_expand.proofs.PhaseKeeps.{none-long, number}
+use Rattle.sc_expand.proofs.PhaseLists.{length-seen}
 use Rattle.sc_expand.proofs.Phases.{Begins, Comes, Itself, PairStands, Phase, Puts, Segments, Settling, Spans, Waiting, as_one, at_item, at_start, bound_of, come_through, last_at, state_now, tokens_from}
 use Rattle.sc_expand.proofs.Placed.{IsNext, Placed, away, inside, passed, placed-between, within-more}
 use Rattle.sc_expand.proofs.RunLemmas.{IsRunning, told-apart}
 use Rattle.sc_expand.proofs.SeenLemmas.{seen_at-Grows, seen_at-append}
 use Rattle.sc_expand.proofs.TakingParts.{none-found}
-use Rattle.sc_expand.specs.Alike.{IsAlikeFrame, Others, others_at}
-use Rattle.sc_expand.specs.declared.expansion.Expansion.{Expansion}
-use Rattle.sc_expand.specs.declared.frame.Enclosing.{Enclosing}
-use Rattle.sc_expand.specs.FootprintSteps.{lower_of}
-use Rattle.sc_expand.specs.Having.{behind_at}
-use Rattle.sc_expand.specs.Machine.{at, state_in}
-use Rattle.sc_expand.specs.Plain.{scanning}
-use Rattle.sc_expand.specs.Running.{HasEnded, bottom, bottom_by, left_at, put_by, put_out}
-use Rattle.sc_expand.specs.Seen.{AreHeld, Grows, IsHeldToken, Stores, calls_at, provenance_of, seen_at, state_by, view_at}
+use Rattle.sc_expand.proofs.Terms.{AreAlike, AreHeld, Becomes, Cond, Enclosing, Expansion, Failure, Grows, HasEnded, Hidden, HiddenToken, IsAlikeFrame, IsCond, IsConfig, IsHeldToken, IsSameName, Macros, Others, Passes, Place, Stores, at, behind_at, bottom, bottom_by, calls_at, indexes_in, items_at, left_at, lower_of, of_item, others_at, provenance_of, put_by, put_out, scanning, seen_at, seen_hidden, state_by, state_in, view_at}
 use Rattle.sc_expand.specs.Spans as spans
-use Rattle.sc_expand.specs.Spans.{Becomes, IsSameName, indexes_in, of_item}
-use Rattle.sc_guarded.proofs.ItemLemmas.{items_at-Keeps}
-use Rattle.sc_guarded.specs.Items.{items_at}
-use Rattle.sc_hoist.specs.Alike.{AreAlike}
-use Rattle.sc_model.proofs.ListLemmas.{slice_get-front, slice_get-seam}
-use Rattle.sc_model.proofs.SetLemmas.{IsConfig-Keeps}
-use Rattle.sc_model.specs.Sets.{IsCond, IsConfig}
-use Rattle.sc_subst.specs.declared.hidden.Hidden.{Hidden}
-use Rattle.sc_subst.specs.Seen.{seen_hidden}
 
 -- so many lists one after the other
 abbrev joined : {A : Type 0} → List (List A) → List A
@@ -250,14 +222,14 @@ module _ {files : List (List ℕ)} {macros : List ℕ → Macros} {old now : Sto
       abbrev own : List (Cond × Hidden)
       own = drop phase.outs (put_out e)
 
-      abbrev start : List (model.Hidden Place)
+      abbrev start : List (HiddenToken Place)
       start = seen_at now (take phase.outs (put_out e)) c
 
       parts : seen_at now e.top.out c ≡ start ++ seen_at now own c
       parts = ap (λ l. seen_at now l c) (sym out-is ∙ sym (take-append-drop phase.outs (put_out e))) ∙ seen_at-append now (take phase.outs (put_out e)) own c
 
       -- the item's, by where the configuration stands
-      puts-by : (out work : List (model.Hidden Place)) (left : ℕ) → Placed (provenance_of files) (macros c) (seen_at old was.top.work c) (phase.came c) (length (tokens_from old was phase.next c)) start (scanning out work) left
+      puts-by : (out work : List (HiddenToken Place)) (left : ℕ) → Placed (provenance_of files) (macros c) (seen_at old was.top.work c) (phase.came c) (length (tokens_from old was phase.next c)) start (scanning out work) left
           → length work ≤ left → out ≡ start ++ seen_at now own c → Puts files macros old was phase.at now own c
       puts-by _ work left (away not p same next) few is =
           spans.passed (missed not) (none-found (seen_hidden now.names now.hides) (items_at now.sets own c) (append_cancel_left start (seen_at now own c) [] (sym is ∙ sym (append-nil start))))

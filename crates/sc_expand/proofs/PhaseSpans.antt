@@ -1,46 +1,30 @@
 -- What a configuration still uses of the item that it expands.
 use Rattle.std.proofs.Common.{◌≡◌, ◌⊎◌, inl, inr, ℕ, suc, ◌+◌, ◌-◌, ◌≤◌, true, true≢false, List, ◌∷◌, ◌++◌, drop, length, length-append, take, sym, ap, subst, ◌∙◌, arith}
-use Rattle.std.proofs.lemmas.List.{drop-drop, length-drop, length-map}
-use Rattle.c11_macros.proofs.OneRun.{one-run}
-use Rattle.c11_macros.specs.Expansion.{IsWithin, case_of, stays}
-use Rattle.c11_macros.specs.Hidden as model
-use Rattle.c11_macros.specs.Macros.{Macros}
-use Rattle.c11_macros.specs.Runs.{End, Uses}
-use Rattle.sc_base.specs.declared.id.Cond.{Cond}
-use Rattle.sc_base.specs.declared.place.Place.{Place}
 use Rattle.sc_expand.proofs.Behind.{below, below-items}
+use Rattle.sc_expand.proofs.Facts.{drop-drop, length-drop, length-map, one-run}
 use Rattle.sc_expand.proofs.Lower.{lower-min}
 use Rattle.sc_expand.proofs.NameRuns.{IsInFront, Named, StateRuns}
 use Rattle.sc_expand.proofs.NameUses.{SomeRun, state-runs}
+use Rattle.sc_expand.proofs.PassesLaws.{passes-end, run-same}
 use Rattle.sc_expand.proofs.PhaseCalls.{below-fewer, items-parted}
 use Rattle.sc_expand.proofs.PhaseItems.{comes-by, item-is}
 use Rattle.sc_expand.proofs.PhaseLists.{same-end, take-least}
 use Rattle.sc_expand.proofs.Phases.{Begins, Comes, HasItem, Phase, at_item, at_start, bound_of, last_at, state_now, tokens_from}
 use Rattle.sc_expand.proofs.Placed as placed
-use Rattle.sc_expand.proofs.PassesLaws.{passes-end, run-same}
 use Rattle.sc_expand.proofs.Placed.{placed-within}
 use Rattle.sc_expand.proofs.PlainNames.{Covers, covers-same, covers-then}
 use Rattle.sc_expand.proofs.PlainSettles.{InName}
-use Rattle.sc_expand.specs.declared.expansion.Expansion.{Expansion}
+use Rattle.sc_expand.proofs.Terms.{Cond, End, Expansion, Hidden, HiddenToken, IsConfig, IsPending, IsWithin, Macros, Place, Stores, Uses, behind_at, bottom, case_of, items_at, lower_of, provenance_of, put_out, scanning, seen_at, seen_hidden, stays}
 use Rattle.sc_expand.specs.FootprintSteps as steps
-use Rattle.sc_expand.specs.FootprintSteps.{IsPending, lower_of}
-use Rattle.sc_expand.specs.Having.{behind_at}
-use Rattle.sc_expand.specs.Plain.{scanning}
-use Rattle.sc_expand.specs.Running.{bottom, put_out}
-use Rattle.sc_expand.specs.Seen.{Stores, provenance_of, seen_at}
-use Rattle.sc_guarded.specs.Items.{items_at}
-use Rattle.sc_model.specs.Sets.{IsConfig}
-use Rattle.sc_subst.specs.declared.hidden.Hidden.{Hidden}
-use Rattle.sc_subst.specs.Seen.{seen_hidden}
 
 -- The state runs with what is left of the list, looks up no names but these, and takes none of its
 -- own items behind the bound.
 pub record IsInside (files : List (List ℕ)) (macros : List ℕ → Macros) (st : Stores) (e : Expansion) (n bound : ℕ) (looked_up : List (List ℕ)) (c : List ℕ) : Type 0 where
-  pub left : List (model.Hidden Place)
-  pub front : List (model.Hidden Place)
+  pub left : List (HiddenToken Place)
+  pub front : List (HiddenToken Place)
   pub bottom_is : steps.bottom (state_now st e c) ≡ front ++ left
   pub some : IsInFront (state_now st e c) front
-  pub done : List (model.Hidden Place)
+  pub done : List (HiddenToken Place)
   pub end : End Place
   pub uses : Uses Place
   pub runs : StateRuns (provenance_of files) (macros c) left (state_now st e c) done end uses
@@ -52,10 +36,10 @@ module _ {files : List (List ℕ)} {macros : List ℕ → Macros} (names : List 
   abbrev items : List (Cond × Hidden)
   items = drop (phase.at + 1) was.top.work
 
-  abbrev list : List (model.Hidden Place)
+  abbrev list : List (HiddenToken Place)
   list = seen_at old was.top.work c
 
-  abbrev rest : List (model.Hidden Place)
+  abbrev rest : List (HiddenToken Place)
   rest = seen_at old (drop (phase.at + 1) was.top.work) c
 
   pub here : placed.IsWithin (provenance_of files) (macros c) list (phase.came c) (length (tokens_from old was phase.next c)) (seen_at now (take phase.outs (put_out e)) c) (state_now now e c) (last_at now e phase.n c)
@@ -79,7 +63,7 @@ module _ {files : List (List ℕ)} {macros : List ℕ → Macros} (names : List 
   named = x.reaches.back run.done run.end run.uses run.runs
 
   -- the name and what stands behind it are the list's last tokens
-  stands-at : (t : model.Hidden Place) (g : ℕ) → t ∷ rest ≡ drop g list → x.name ∷ x.behind ≡ t ∷ rest
+  stands-at : (t : HiddenToken Place) (g : ℕ) → t ∷ rest ≡ drop g list → x.name ∷ x.behind ≡ t ∷ rest
   stands-at t g is = let one = passes-end (provenance_of files) (macros c) x.passes in same-end one.0 g list (x.name ∷ x.behind) (t ∷ rest) one.1 is (ap suc long)
 
   -- ---- the item
@@ -87,7 +71,7 @@ module _ {files : List (List ℕ)} {macros : List ℕ → Macros} (names : List 
   item : HasItem old was phase.at c
   item = phase.has c p here.came_is
 
-  abbrev t : model.Hidden Place
+  abbrev t : HiddenToken Place
   t = seen_hidden old.names old.hides item.item.1
 
   at-item : x.name ∷ x.behind ≡ t ∷ rest
@@ -97,7 +81,7 @@ module _ {files : List (List ℕ)} {macros : List ℕ → Macros} (names : List 
   comes = comes-by files macros old was phase.at c item x.passes long named.runs
 
   -- it has the name still, or has replaced it
-  pub comes-named : ((out : List (model.Hidden Place)) × (state_now now e c ≡ scanning out (seen_hidden old.names old.hides comes.item.1 ∷ rest))) ⊎ (case_of (macros c) (seen_hidden old.names old.hides comes.item.1) rest ≡ stays → ⊥)
+  pub comes-named : ((out : List (HiddenToken Place)) × (state_now now e c ≡ scanning out (seen_hidden old.names old.hides comes.item.1 ∷ rest))) ⊎ (case_of (macros c) (seen_hidden old.names old.hides comes.item.1) rest ≡ stays → ⊥)
   unfolding comes
   comes-named =
       let is = at-item in

@@ -1,52 +1,25 @@
 -- A phase of an expansion begins: with the whole list, and at each name of it.
 use Rattle.std.proofs.Common.{◌≡◌, ◌⊎◌, inl, inr, ℕ, zero, suc, ◌+◌, ◌-◌, ◌<◌, ◌≤◌, ◌&&◌, Bool, true, false, true≢false, List, [], ◌∷◌, ◌++◌, All, None, Some, drop, length, length-append, map, slice_get, take, refl, sym, ap, subst, ◌∙◌, arith, if◌then◌else◌}
-use Rattle.std.proofs.lemmas.Bool.{and_parts, cases_lt}
-use Rattle.std.proofs.lemmas.List.{append-nil, append_assoc, drop-drop, drop_all, length-drop, map-append, take-take, take_all}
-use Rattle.std.proofs.lemmas.List.Elements.{All-append, All-cons, All-drop, All-head, All-nil, All-take}
-use Rattle.c11_macros.specs.Hidden as model
-use Rattle.c11_macros.specs.Macros.{Macros}
-use Rattle.c11_macros.specs.Runs.{Passes, begins}
-use Rattle.sc_base.specs.declared.fault.Fault.{Fault}
-use Rattle.sc_base.specs.declared.id.Cond.{Cond}
-use Rattle.sc_base.specs.declared.place.Place.{Place}
 use Rattle.sc_expand.proofs.AlikeLemmas.{AreAlike-Keeps, IsAlike-Keeps}
-use Rattle.sc_expand.proofs.BottomLemmas.{behind-Keeps, bottom-frame}
-use Rattle.sc_expand.proofs.Lower.{lower-bounds, lower-least, lower-min}
 use Rattle.sc_expand.proofs.Behind.{Fall, Fall-weaker, behind-falls, below, below-all, below-behind, below-not}
+use Rattle.sc_expand.proofs.BottomLemmas.{behind-Keeps, bottom-frame}
+use Rattle.sc_expand.proofs.Facts.{All-append, All-cons, All-drop, All-head, All-nil, All-take, IsConfig-Keeps, IsConfig-kept, and_parts, append-nil, append_assoc, cases_lt, drop-drop, drop_all, items_at-Keeps, length-drop, map-append, take-take, take_all}
+use Rattle.sc_expand.proofs.Lower.{lower-bounds, lower-least, lower-min}
 use Rattle.sc_expand.proofs.MachineLemmas.{progress-step}
-use Rattle.sc_expand.proofs.PhaseLists.{alike-behind, below-from, below-same, first-had, length-seen, same-end, seen-drop, seen-name, take-least}
+use Rattle.sc_expand.proofs.NamedItems.{first-alone, indexes-append, indexes-Keeps, item-all, item-append, item-none, same-name-Keeps, same-name-more}
 use Rattle.sc_expand.proofs.PassesLaws.{passes-end}
 use Rattle.sc_expand.proofs.PhaseItems.{come-many, from-later}
-use Rattle.sc_expand.proofs.Phases.{Begins, Comes, HasItem, IsFresh, IsOver, IsReady, IsWorn, PairStands, Phase, Segments, Settling, Spans, Waiting, as_one, at_item, at_start, bound_of, come_through, indexes_now, last_at, state_now, tokens_from}
-use Rattle.sc_expand.proofs.NamedItems.{first-alone, indexes-append, indexes-Keeps, item-all, item-append, item-none, same-name-Keeps, same-name-more}
 use Rattle.sc_expand.proofs.PhaseKeeps.{all-below, all-fall, fronts-alike, fronts-lack, low-behind, number, numbered, numbered-once, numbered-none, numbered-own, numbered-alike, numbered-behind, numbered-idle, numbered-indexes, numbered-is, numbered-lacks, numbered-later, numbers-first, numbers-same}
-use Rattle.sc_expand.proofs.PhaseSegments.{bottom-is, held-drop, held-take, out-is, own-few, phase-segments, puts-as, segments-Grows, segments-kept, settles-on, stands, state-is}
-use Rattle.sc_expand.proofs.Placed.{IsNext, Placed, away, placed-next}
-use Rattle.sc_expand.proofs.SeenLemmas.{seen_at-Grows}
-use Rattle.sc_expand.proofs.Turning.{put_by-held}
+use Rattle.sc_expand.proofs.PhaseLists.{alike-behind, below-from, below-same, first-had, length-seen, same-end, seen-drop, seen-name, take-least}
 use Rattle.sc_expand.proofs.PhaseMoves.{first-more}
+use Rattle.sc_expand.proofs.PhaseSegments.{bottom-is, held-drop, held-take, out-is, own-few, phase-segments, puts-as, segments-Grows, segments-kept, settles-on, stands, state-is}
+use Rattle.sc_expand.proofs.Phases.{Begins, Comes, HasItem, IsFresh, IsOver, IsReady, IsWorn, PairStands, Phase, Segments, Settling, Spans, Waiting, as_one, at_item, at_start, bound_of, come_through, indexes_now, last_at, state_now, tokens_from}
+use Rattle.sc_expand.proofs.Placed.{IsNext, Placed, away, placed-next}
 use Rattle.sc_expand.proofs.RunLemmas.{IsRunning, rests-at, running-apart, running-stands, start-state, told-apart}
-use Rattle.sc_expand.specs.Alike.{IsAlikeCall, IsAlikeEnclosing, IsAlikeExpansion, IsAlikeFrame, Others, others_at}
-use Rattle.sc_expand.specs.declared.call.Call.{Call}
-use Rattle.sc_expand.specs.declared.expansion.Expansion.{Expansion}
-use Rattle.sc_expand.specs.declared.frame.Enclosing.{Enclosing}
-use Rattle.sc_expand.specs.declared.frame.Frame.{Frame}
-use Rattle.sc_expand.specs.declared.refusals.Refusals.{Refusals}
-use Rattle.sc_expand.specs.FootprintSteps.{IsPending, lower_of}
-use Rattle.sc_expand.specs.Having.{behind_at}
-use Rattle.sc_expand.specs.Machine.{IsHeldExpansion}
-use Rattle.sc_expand.specs.Plain.{State, scanning}
-use Rattle.sc_expand.specs.Running.{IsRested, IsUntouched, KeepsGone, bottom, bottom_by, put_by, put_out}
-use Rattle.sc_expand.specs.Seen.{AreHeld, Grows, Stores, provenance_of, seen_at}
+use Rattle.sc_expand.proofs.SeenLemmas.{seen_at-Grows}
+use Rattle.sc_expand.proofs.Terms.{AreAlike, AreAlikeFaults, AreHeld, Call, Cond, Drops, Enclosing, Expansion, Fault, Frame, Grows, Hidden, HiddenToken, IsAlike, IsAlikeCall, IsAlikeEnclosing, IsAlikeExpansion, IsAlikeFrame, IsCond, IsConfig, IsHeldExpansion, IsPending, IsRested, IsUntouched, KeepsGone, Macros, Others, Passes, Place, Refusals, Sets, State, Stores, begins, behind_at, bottom, bottom_by, items_at, lower_of, others_at, provenance_of, put_by, put_out, scanning, seen_at, seen_hidden}
+use Rattle.sc_expand.proofs.Turning.{put_by-held}
 use Rattle.sc_expand.specs.Spans.{IsSameName, indexes_in, of_item, passed}
-use Rattle.sc_expand.specs.Unchanged.{Drops}
-use Rattle.sc_guarded.proofs.ItemLemmas.{items_at-Keeps}
-use Rattle.sc_guarded.specs.Items.{items_at}
-use Rattle.sc_hoist.specs.Alike.{AreAlike, AreAlikeFaults, IsAlike}
-use Rattle.sc_model.proofs.SetLemmas.{IsConfig-Keeps, IsConfig-kept}
-use Rattle.sc_model.specs.Sets.{IsCond, IsConfig, Sets}
-use Rattle.sc_subst.specs.declared.hidden.Hidden.{Hidden}
-use Rattle.sc_subst.specs.Seen.{seen_hidden}
 
 -- ---- fewer tokens that are alike
 
@@ -158,7 +131,7 @@ module _ {files : List (List ℕ)} {macros : List ℕ → Macros} {old now : Sto
     has = phase.has;
     place = λ c p live.
         let s = stays c p live in
-        subst (λ (z : List (model.Hidden Place) × State Place × ℕ). Placed (provenance_of files) (macros c) (seen_at old was.top.work c) (phase.came c) (length (tokens_from old was phase.next c)) z.0 z.1 z.2)
+        subst (λ (z : List (HiddenToken Place) × State Place × ℕ). Placed (provenance_of files) (macros c) (seen_at old was.top.work c) (phase.came c) (length (tokens_from old was phase.next c)) z.0 z.1 z.2)
         (λ i. (sym (start-same c p) i, s.1 i, sym (last c p live) i)) (phase.place c p s.0);
     suffix = λ c p live m le. let it = phase.suffix c p (stays c p live).0 m (omega (arith, le, lower-min (length (bottom after).work) phase.n)) in (it.0, ap (below m) (behind c p live) ∙ it.1);
     pairs = λ size c d p q span here there. pair-rested size c d p q here there (phase.pairs size c d p q span here there);
@@ -549,16 +522,16 @@ module _ {files : List (List ℕ)} {macros : List ℕ → Macros} {old now : Sto
   place-now : (c : List ℕ) → IsConfig old.sets.arities c → now.sets.has e.refusals.live.0 c ≡ true
       → Placed (provenance_of files) (macros c) (seen_at old was.top.work c) (came_now c) (length (tokens_from old was (at_now + 1) c)) (seen_at now (take (length e.top.out) (put_out e)) c) (state_now now e c) (last_at now e (length rest) c)
   place-now c p live =
-      subst (λ (z : List (model.Hidden Place) × State Place). Placed (provenance_of files) (macros c) list (came_now c) (length behind) z.0 z.1 (last_at now e (length rest) c))
+      subst (λ (z : List (HiddenToken Place) × State Place). Placed (provenance_of files) (macros c) list (came_now c) (length behind) z.0 z.1 (last_at now e (length rest) c))
       (λ i. (seen_at now ((sym (out-is r phase none uncalled near) ∙ sym starts) i) c, sym (state-first c) i)) (by (came_now c) refl)
     where
-      list : List (model.Hidden Place)
+      list : List (HiddenToken Place)
       list = seen_at old was.top.work c
 
-      behind : List (model.Hidden Place)
+      behind : List (HiddenToken Place)
       behind = tokens_from old was (at_now + 1) c
 
-      out : List (model.Hidden Place)
+      out : List (HiddenToken Place)
       out = seen_at now e.top.out c
 
       by : (b : Bool) → came_now c ≡ b → Placed (provenance_of files) (macros c) list (came_now c) (length behind) out (scanning out (seen_at now (item ∷ rest) c)) (last_at now e (length rest) c)

@@ -1,14 +1,8 @@
 -- Where the name that stands first has so many different calls, so many configurations come to one
 -- name of the list that no two of them expand alike.
 use Rattle.std.proofs.Common.{◌≡◌, ◌⊎◌, inl, inr, ℕ, ◌+◌, ◌≤◌, Bool, true, false, true≢false, List, [], ◌∷◌, All, Option, None, Some, drop, length, refl, sym, ap, subst, ◌∙◌}
-use Rattle.c11_macros.specs.Expansion.{IsWithin, case_of, fitted_case, is_looked_up, stays}
-use Rattle.c11_macros.specs.Hidden as model
-use Rattle.c11_macros.specs.Macros.{Definition, Macros}
-use Rattle.sc_base.specs.declared.id.Cond.{Cond}
-use Rattle.sc_base.specs.declared.place.Place.{Place}
-use Rattle.sc_base.specs.declared.stop.Stop.{Stop}
-use Rattle.sc_base.specs.declared.stop.Stop.TheVariants.{BranchesFull, ReadFault, OutOfMemory}
 use Rattle.sc_expand.proofs.AlikeRunning.{seen-first}
+use Rattle.sc_expand.proofs.Facts.{IsConfig-kept, cons-some}
 use Rattle.sc_expand.proofs.FootprintLemmas.{pairs-both}
 use Rattle.sc_expand.proofs.GatherCases.{case-closed, closed-call, spellings}
 use Rattle.sc_expand.proofs.GatherEnds.{end-behind}
@@ -20,24 +14,10 @@ use Rattle.sc_expand.proofs.PhaseSpans.{comes, comes-named}
 use Rattle.sc_expand.proofs.Phases.{Comes, IsReady, Phase, last_at, state_now}
 use Rattle.sc_expand.proofs.Rests.{first-is, next-token}
 use Rattle.sc_expand.proofs.RunLemmas.{IsRunning, running-fewer, running-stands}
-use Rattle.sc_expand.specs.Alike.{IsFunctionLike, TakesName}
-use Rattle.sc_expand.specs.declared.expansion.Expansion.{Expansion}
-use Rattle.sc_expand.specs.Spans.{HasSpansApart, IsSpan, StopsApart}
-use Rattle.sc_expand.specs.FootprintSteps.{IsPending}
-use Rattle.sc_expand.specs.Having.{tokens_in}
-use Rattle.sc_expand.specs.Machine.{IsHeldExpansion, no_view, state_in}
-use Rattle.sc_expand.specs.Plain.{scanning}
-use Rattle.sc_expand.specs.Seen.{Grows, Stores, View, calls_at, provenance_of, seen_at, state_by, view_at}
-use Rattle.sc_expand.specs.Taking.{has_first}
-use Rattle.sc_expand.specs.CallStops.{HasCalls, StopsAt}
-use Rattle.sc_hoist.specs.Calls.{call_end, call_end_at, call_places, closed}
-use Rattle.sc_model.proofs.SetLemmas.{IsConfig-kept}
-use Rattle.sc_model.specs.Sets.{IsConfig}
-use Rattle.sc_subst.specs.Seen.{seen_hidden}
-use Rattle.c11_macros.proofs.CallEnds.{cons-some}
+use Rattle.sc_expand.proofs.Terms.{BranchesFull, Cond, Definition, Expansion, Grows, HasCalls, HasSpansApart, HiddenToken, IsConfig, IsFunctionLike, IsHeldExpansion, IsPending, IsSpan, IsWithin, Macros, OutOfMemory, Place, ReadFault, Stop, StopsApart, StopsAt, Stores, TakesName, View, call_end, call_end_at, call_places, calls_at, case_of, closed, fitted_case, has_first, is_looked_up, no_view, provenance_of, scanning, seen_at, seen_hidden, state_by, state_in, stays, tokens_in, view_at}
 
 -- a name whose call is closed doesn't stay
-closed-replaces : (macros : Macros) (t : model.Hidden Place) (rest : List (model.Hidden Place)) (o : Option Definition) → macros t.spelling ≡ o → IsFunctionLike o → is_looked_up t ≡ true → call_end (spellings rest) ≡ closed
+closed-replaces : (macros : Macros) (t : HiddenToken Place) (rest : List (HiddenToken Place)) (o : Option Definition) → macros t.spelling ≡ o → IsFunctionLike o → is_looked_up t ≡ true → call_end (spellings rest) ≡ closed
     → case_of macros t rest ≡ stays → ⊥
 closed-replaces macros t rest None defined function looked ends stay = function
 closed-replaces macros t rest (Some d) defined function looked ends stay =
@@ -45,7 +25,7 @@ closed-replaces macros t rest (Some d) defined function looked ends stay =
     let call = closed-call rest ends in
     fits call.close call.after _ (sym (case-closed macros t d looked defined f.parameters f.variadic f.is rest call.between call.close call.after call.call) ∙ stay)
   where
-    fits : (close : model.Hidden Place) (after : List (model.Hidden Place)) (o : Option (List (List (model.Hidden Place)))) → fitted_case d close after o ≡ stays → ⊥
+    fits : (close : HiddenToken Place) (after : List (HiddenToken Place)) (o : Option (List (List (HiddenToken Place)))) → fitted_case d close after o ≡ stays → ⊥
     fits close after None is = absurd (cc)
     fits close after (Some arguments) is = absurd (cc)
 
@@ -96,10 +76,10 @@ module _ {files : List (List ℕ)} {macros : List ℕ → Macros} (names : List 
     come-replaces : (c : List ℕ) → HasCome c → Coming c
     come-replaces c h = (comes names within phase c h.listed h.takes.live h.pending, by (comes-named names within phase c h.listed h.takes.live h.pending))
       where
-        name : model.Hidden Place
+        name : HiddenToken Place
         name = seen_hidden old.names old.hides (comes names within phase c h.listed h.takes.live h.pending).item.1
 
-        behind : List (model.Hidden Place)
+        behind : List (HiddenToken Place)
         behind = seen_at old (drop (phase.at + 1) was.top.work) c
 
         item-is : seen_at now e.top.work c ≡ seen_hidden now.names now.hides h.takes.item.1 ∷ seen_at now (drop 1 e.top.work) c
@@ -109,10 +89,10 @@ module _ {files : List (List ℕ)} {macros : List ℕ → Macros} (names : List 
         first is =
             let same : seen_hidden now.names now.hides h.takes.item.1 ≡ name = cc (is, item-is) in
             let has = ap (λ l. has_first now.sets l c) (first-is e.top.work h.takes.item h.takes.first) ∙ h.takes.has in
-            closed-replaces (macros c) name behind _ (ap (λ (t : model.Hidden Place). macros c t.spelling) (sym same)) h.takes.function (ap is_looked_up (sym same) ∙ h.takes.looked_up)
+            closed-replaces (macros c) name behind _ (ap (λ (t : HiddenToken Place). macros c t.spelling) (sym same)) h.takes.function (ap is_looked_up (sym same) ∙ h.takes.looked_up)
             (end-behind now e.top.work c name behind has is ∙ h.ends)
 
-        at-top : (out : List (model.Hidden Place)) → state_now now e c ≡ scanning out (name ∷ behind) → (e.below.items ≡ []) ⊎ Waits (state_now now e c) → case_of (macros c) name behind ≡ stays → ⊥
+        at-top : (out : List (HiddenToken Place)) → state_now now e c ≡ scanning out (name ∷ behind) → (e.below.items ≡ []) ⊎ Waits (state_now now e c) → case_of (macros c) name behind ≡ stays → ⊥
         at-top out is (inr waits) = absurd (subst Waits is waits)
         at-top out is (inl none) =
             let calls : calls_at now e.top.calls.items c ≡ [] = ap (λ l. calls_at now l c) h.takes.calls in
@@ -120,7 +100,7 @@ module _ {files : List (List ℕ)} {macros : List ℕ → Macros} (names : List 
             = ap (λ bs. state_in now bs (view_at now e.top c) c) none ∙ ap (state_by (seen_at now e.top.out c) (seen_at now e.top.work c)) calls in
             first (cc (sym state ∙ is))
 
-        by : ((out : List (model.Hidden Place)) × (state_now now e c ≡ scanning out (name ∷ behind))) ⊎ (case_of (macros c) name behind ≡ stays → ⊥) → case_of (macros c) name behind ≡ stays → ⊥
+        by : ((out : List (HiddenToken Place)) × (state_now now e c ≡ scanning out (name ∷ behind))) ⊎ (case_of (macros c) name behind ≡ stays → ⊥) → case_of (macros c) name behind ≡ stays → ⊥
         by (inr replaces) = replaces
         by (inl a) = at-top a.0 a.1 (on-top now c (view_at now e.top c) (takes-on-top c h.listed h.takes))
 

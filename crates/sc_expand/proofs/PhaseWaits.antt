@@ -1,42 +1,27 @@
 -- What a phase has put out, through a turn, and what is put out for the item of who begins to wait.
 use Rattle.std.proofs.Common.{◌≡◌, ◌∙◌, ℕ, ◌≤◌, Bool, true, false, true≢false, List, [], ◌∷◌, ◌++◌, ◌-◌, ◌<◌, All, append-nil, drop, length, length-append, map, suc, ◌+◌, Some, None, slice_get, take, refl, sym, ap, subst, arith}
-use Rattle.std.proofs.lemmas.Bool.{false_from_ne_true}
-use Rattle.std.proofs.lemmas.List.{append_cancel_left, drop-drop, drop-map, length-drop, length-map, map-append, take-append-drop}
-use Rattle.std.proofs.lemmas.List.Elements.{All-append}
-use Rattle.c11_macros.specs.Macros.{Macros}
-use Rattle.c11_macros.specs.Runs.{waits}
-use Rattle.sc_base.specs.declared.id.Cond.{Cond}
 use Rattle.sc_expand.proofs.Behind.{behind-falls, below, below-behind}
+use Rattle.sc_expand.proofs.Facts.{All-append, IsConfig-Keeps, IsConfig-kept, append_cancel_left, drop-drop, drop-map, false_from_ne_true, length-drop, length-map, map-append, take-append-drop}
 use Rattle.sc_expand.proofs.LastLemmas.{behind-drop}
 use Rattle.sc_expand.proofs.PassesLaws.{none-behind}
 use Rattle.sc_expand.proofs.PhaseItems.{come-many, comes-by, from-later, item-is}
+use Rattle.sc_expand.proofs.PhaseKeeps.{more-at, more-idle, more-is, more-of, number, numbers-parts, waits-turned}
 use Rattle.sc_expand.proofs.PhaseLists.{length-seen, same-drop}
 use Rattle.sc_expand.proofs.PhaseMoves.{ended-state, first-far, first-out, held-first, start-later, state-bottom, takes-pending}
-use Rattle.sc_expand.proofs.Phases.{Begins, Comes, IsReady, Phase, Segments, Waiting, WaitsHere, at_item, at_start, indexes_now, last_at, state_now, tokens_from}
-use Rattle.sc_expand.proofs.PhaseKeeps.{more-at, more-idle, more-is, more-of, number, numbers-parts, waits-turned}
 use Rattle.sc_expand.proofs.PhaseSegments.{indexes-none, puts-as, segments-Grows, segments-kept}
+use Rattle.sc_expand.proofs.Phases.{Begins, Comes, IsReady, Phase, Segments, Waiting, WaitsHere, at_item, at_start, indexes_now, last_at, state_now, tokens_from}
 use Rattle.sc_expand.proofs.Placed as placed
 use Rattle.sc_expand.proofs.Placed.{placed-within}
 use Rattle.sc_expand.proofs.PlainSettles.{HasWaited, has-waited, no-waits}
 use Rattle.sc_expand.proofs.RunLemmas.{IsRunning, bottom-state, running-apart, running-stands, turned-at}
 use Rattle.sc_expand.proofs.SeenLemmas.{seen_at-append}
-use Rattle.sc_expand.specs.declared.expansion.Expansion.{Expansion}
-use Rattle.sc_expand.specs.Having.{behind_at}
+use Rattle.sc_expand.proofs.Terms.{Cond, EndsBy, Expansion, Grows, HasEnded, Hidden, IsCond, IsConfig, IsHeldExpansion, IsTurned, Macros, Progress, Pushes, Stands, Stores, at, behind_at, bottom, held_up, indexes_at, items_at, last_ones, provenance_of, put_out, seen_at, view_at, waits}
 use Rattle.sc_expand.specs.Machine as machine
-use Rattle.sc_expand.specs.Machine.{IsHeldExpansion, Progress, Stands, at}
 use Rattle.sc_expand.specs.Open as open_end
 use Rattle.sc_expand.specs.Running as running
-use Rattle.sc_expand.specs.Running.{HasEnded, IsTurned, Pushes, bottom, put_out}
-use Rattle.sc_expand.specs.Seen.{Grows, Stores, provenance_of, seen_at, view_at}
 use Rattle.sc_expand.specs.Spans as spans
-use Rattle.sc_expand.specs.Spans.{indexes_at, last_ones}
 use Rattle.sc_expand.specs.Turn as turn
-use Rattle.sc_expand.specs.Turn.{EndsBy, held_up}
 use Rattle.sc_expand.specs.Unchanged as unchanged
-use Rattle.sc_guarded.specs.Items.{items_at}
-use Rattle.sc_model.proofs.SetLemmas.{IsConfig-Keeps, IsConfig-kept}
-use Rattle.sc_model.specs.Sets.{IsCond, IsConfig}
-use Rattle.sc_subst.specs.declared.hidden.Hidden.{Hidden}
 
 module _ (files : List (List ℕ)) (macros : List ℕ → Macros) {old now : Stores} {was e : Expansion} (grows : Grows old now) (r : IsRunning files macros old now was e) (began : IsHeldExpansion old (length files) was)
     (phase : Phase files macros old now was e) (ready : IsReady files macros phase) (new : Stores) (after : Expansion) (other : List ℕ → Macros) (same : (c : List ℕ) → IsConfig old.sets.arities c → other c ≡ macros c)

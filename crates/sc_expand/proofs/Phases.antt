@@ -1,28 +1,10 @@
 -- The expansion of one name of the list under all configurations that come to it: where each
 -- stands, and what those that expand it alike have alike.
 use Rattle.std.proofs.Common.{◌≡◌, ◌⊎◌, ℕ, ◌+◌, ◌-◌, ◌<◌, ◌≤◌, suc, Bool, true, false, List, [], ◌∷◌, ◌++◌, All, drop, length, map, take}
-use Rattle.c11_macros.specs.Hidden as model
-use Rattle.c11_macros.specs.Macros.{Macros}
-use Rattle.sc_base.specs.declared.id.Cond.{Cond}
-use Rattle.sc_base.specs.declared.place.Place.{Place}
 use Rattle.sc_expand.proofs.Behind.{below}
 use Rattle.sc_expand.proofs.PhaseKeeps.{number}
 use Rattle.sc_expand.proofs.Placed.{Placed}
-use Rattle.sc_expand.specs.Alike.{IsAlikeExpansion, Others}
-use Rattle.sc_expand.specs.declared.expansion.Expansion.{Expansion}
-use Rattle.sc_expand.specs.FootprintSteps.{IsPending, lower_of}
-use Rattle.sc_expand.specs.Having.{behind_at}
-use Rattle.sc_expand.specs.Machine.{state_in}
-use Rattle.sc_expand.specs.Open.{Waits}
-use Rattle.sc_expand.specs.Plain.{State, scanning}
-use Rattle.sc_expand.specs.Running.{bottom, put_out}
-use Rattle.sc_expand.specs.Seen.{Stores, provenance_of, seen_at, view_at}
-use Rattle.sc_expand.specs.Spans.{ComesAt, InSegments, IsItself, IsSameName, IsSettling, IsSpan, PutsOutAt, WaitsAs, indexes_in, of_item}
-use Rattle.sc_guarded.specs.Items.{items_at}
-use Rattle.sc_hoist.specs.Alike.{AreAlike}
-use Rattle.sc_model.specs.Sets.{IsConfig}
-use Rattle.sc_subst.specs.declared.hidden.Hidden.{Hidden}
-use Rattle.sc_subst.specs.Seen.{seen_hidden}
+use Rattle.sc_expand.proofs.Terms.{AreAlike, ComesAt, Cond, Expansion, Hidden, HiddenToken, InSegments, IsAlikeExpansion, IsConfig, IsItself, IsPending, IsSameName, IsSettling, IsSpan, Macros, Others, Place, PutsOutAt, State, Stores, Waits, WaitsAs, behind_at, bottom, indexes_in, items_at, lower_of, of_item, provenance_of, put_out, scanning, seen_at, seen_hidden, state_in, view_at}
 
 abbrev pub state_now : Stores → Expansion → List ℕ → State Place
 state_now st e c = state_in st e.below.items (view_at st e.top c) c
@@ -41,7 +23,7 @@ abbrev pub indexes_now : Stores → Expansion → (long n at : ℕ) → List (�
 indexes_now st e long n at kept c = indexes_in st.sets kept c ++ map (number long n at) (behind_at st.sets (bottom e).work c)
 
 -- what the configuration has from an index of the list on
-abbrev pub tokens_from : Stores → Expansion → ℕ → List ℕ → List (model.Hidden Place)
+abbrev pub tokens_from : Stores → Expansion → ℕ → List ℕ → List (HiddenToken Place)
 tokens_from old was at c = seen_at old (drop at was.top.work) c
 
 -- the configuration has only the last n items of the list, and no call waits there

@@ -2,15 +2,11 @@
 -- tokens of the list: it does not come to an item, or is in its expansion, or has passed it; and
 -- what was put out before.
 use Rattle.std.proofs.Common.{◌≡◌, ℕ, ◌<◌, ◌≤◌, Bool, true, false, List, [], ◌∷◌, ◌++◌, length, length-append, refl, sym, ap, ◌∙◌, subst, arith}
-use Rattle.c11_macros.specs.Hidden.{Hidden, Provenance}
-use Rattle.c11_macros.specs.Macros.{Macros}
-use Rattle.c11_macros.specs.Runs.{Passes, goes_on, over, Runs, Uses}
 use Rattle.sc_expand.proofs.NameRuns.{front-pending, name-start, name-steps}
 use Rattle.sc_expand.proofs.PassesLaws.{none-between, over-source}
 use Rattle.sc_expand.proofs.PlainSettles.{InName, Stood, going, over_now, stood}
+use Rattle.sc_expand.proofs.Terms.{HiddenToken as Hidden, Macros, Moves, Passes, Provenance, Runs, State, Uses, Waits, goes_on, over, scanning}
 use Rattle.sc_expand.specs.FootprintSteps.{IsPending, bottom, lower_of}
-use Rattle.sc_expand.specs.Open.{Waits}
-use Rattle.sc_expand.specs.Plain.{Moves, State, scanning}
 
 module _ {P : Type 0} (provenance : Provenance P) (macros : Macros) (list : List (Hidden P)) where
   -- Of the places that its expansion comes to with no more than so many tokens left this is the

@@ -1,16 +1,12 @@
 -- Tables that define the names alike that an expansion looks up make the same steps.
 use Rattle.std.proofs.Common.{◌≡◌, ℕ, Bool, true, false, List, [], ◌∷◌, ◌++◌, Result, Ok, Err, refl, sym, ap, ◌∙◌, subst, if◌then◌else◌}
 use Rattle.c11_macros.specs.Expansion as expansion
-use Rattle.c11_macros.specs.Expansion.{Expands, IsWithin, case_of, defined_case, is_looked_up, looked_up_case}
-use Rattle.c11_macros.specs.Hidden.{Failure, Hidden, Provenance}
-use Rattle.c11_macros.specs.Macros.{Macros}
-use Rattle.c11_macros.specs.Trace.{Agree, looked_up_at, trace, trace_each, trace_rescan}
 use Rattle.sc_expand.proofs.PlainCompletes.{Completes, ends, looked, refuses, resumes, scanned}
 use Rattle.sc_expand.proofs.PlainMoves.{move-back}
 use Rattle.sc_expand.proofs.PlainNames.{Covers, covers-front, covers-same, covers-then}
 use Rattle.sc_expand.proofs.PlainTurns.{Pending, under}
+use Rattle.sc_expand.proofs.Terms.{Agree, Expands, Failure, HiddenToken as Hidden, IsWithin, Leads, Macros, Moves, Provenance, State, Waiting, case_of, defined_case, expanding, is_looked_up, looked_up_at, looked_up_case, no_step, scanning, step, trace, trace_each, trace_rescan, waiting, with_expanded}
 use Rattle.sc_expand.specs.Plain as plain
-use Rattle.sc_expand.specs.Plain.{Leads, Moves, State, Waiting, expanding, no_step, scanning, step, waiting, with_expanded}
 
 -- the name of the first token is looked up, where it is one that is not hidden
 pub head-taken : {P : Type 0} {provenance : Provenance P} {macros : Macros} {t : Hidden P} {rest : List (Hidden P)} {r : Result (List (Hidden P)) (Failure P)} (d : Expands provenance macros (t ∷ rest) r) → Covers (trace d).looked_up (looked_up_at t)

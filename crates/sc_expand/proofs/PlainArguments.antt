@@ -1,14 +1,8 @@
 -- The arguments of a call one after the other, and its replacement with what they expand to.
 use Rattle.std.proofs.Common.{◌≡◌, ℕ, ◌+◌, ◌*◌, ◌≤◌, List, [], ◌∷◌, ◌++◌, append_assoc, append-nil, Result, Ok, Err, refl, sym, ◌∙◌, subst, arith}
-use Rattle.c11_macros.proofs.RunExpands.{these-none}
-use Rattle.c11_macros.specs.Expansion.{Each, Expands, Rescans, next, none, refused, stops}
-use Rattle.c11_macros.specs.Hidden.{Failure, Hidden, Provenance}
-use Rattle.c11_macros.specs.Macros.{Macros}
-use Rattle.c11_macros.specs.Results.{result_and_then}
-use Rattle.c11_macros.specs.Runs.{after_these}
-use Rattle.c11_macros.specs.Trace.{trace, trace_each, trace_rescan}
+use Rattle.sc_expand.proofs.Facts.{these-none}
 use Rattle.sc_expand.proofs.PlainCompletes.{Completes, Waits, looked, refuses, resumes, scanned, steps, waits, waits_for, waits_none}
-use Rattle.sc_expand.specs.Plain.{Waiting, expanding, replacement_of, scanning, waiting, with_expanded, without_first}
+use Rattle.sc_expand.proofs.Terms.{Each, Expands, Failure, HiddenToken as Hidden, Macros, Provenance, Rescans, Waiting, after_these, expanding, next, none, refused, replacement_of, result_and_then, scanning, stops, trace, trace_each, trace_rescan, waiting, with_expanded, without_first}
 
 module _ {P : Type 0} (provenance : Provenance P) (macros : Macros) where
   abbrev Answer : Type 0

@@ -1,10 +1,7 @@
 -- What is to be done at a token, by what is known of it.
 use Rattle.std.proofs.Common.{◌≡◌, ℕ, zero, Bool, true, false, List, [], ◌∷◌, length, codes, Option, Some, None, refl, ap, ◌∙◌, if◌then◌else◌, is_some}
 use Rattle.c11_macros.specs.Call.{Call, call_of}
-use Rattle.c11_macros.specs.Expansion.{call_case, case_of, defined_case, form_case, is_looked_up, looked_up_case, replaced, stays, unclosed}
-use Rattle.c11_macros.specs.Hidden.{Hidden}
-use Rattle.c11_macros.specs.Macros.{Definition, Form, Macros, Rest, function_like, object_like}
-use Rattle.sc_model.specs.Bytes.{same_bytes}
+use Rattle.sc_expand.proofs.Terms.{Definition, Form, HiddenToken as Hidden, Macros, Rest, call_case, case_of, defined_case, form_case, function_like, is_looked_up, looked_up_case, object_like, replaced, same_bytes, stays, unclosed}
 
 module _ {P : Type 0} (macros : Macros) (t : Hidden P) where
   pub case-hidden : (rest : List (Hidden P)) → is_looked_up t ≡ false → case_of macros t rest ≡ stays

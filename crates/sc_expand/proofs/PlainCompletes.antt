@@ -1,13 +1,7 @@
 -- What a state comes to in the end, and in how many steps.
 use Rattle.std.proofs.Common.{◌≡◌, ℕ, suc, ◌+◌, ◌*◌, List, [], ◌∷◌, ◌++◌, Result, Ok, Err, refl, sym, ap, ◌∙◌, subst, arith}
-use Rattle.c11_macros.proofs.Halting.{halts}
-use Rattle.c11_macros.proofs.OneAnswer.{one}
-use Rattle.c11_macros.specs.Expansion.{Expands, IsWithin, Rescans, on, refused}
-use Rattle.c11_macros.specs.Hidden.{Failure, Hidden, Provenance}
-use Rattle.c11_macros.specs.Macros.{Macros}
-use Rattle.c11_macros.specs.Runs.{after_these}
-use Rattle.c11_macros.specs.Trace.{Same, trace, trace_rescan}
-use Rattle.sc_expand.specs.Plain.{State, Waiting, expanding, replacement_of, scanning, waiting, with_expanded, without_first}
+use Rattle.sc_expand.proofs.Facts.{halts, one}
+use Rattle.sc_expand.proofs.Terms.{Expands, Failure, HiddenToken as Hidden, IsWithin, Macros, Provenance, Rescans, Same, State, Waiting, after_these, expanding, on, refused, replacement_of, scanning, trace, trace_rescan, waiting, with_expanded, without_first}
 
 -- The state comes to this list, or to this failure: what is put out stands before what the rest
 -- expands to, and the arguments of a call expand one after the other, up to the first that fails.

@@ -1,26 +1,14 @@
 -- What an expansion puts out stands on one line.
-use Rattle.std.proofs.Common.{◌≡◌, is_ok, set, ℕ, zero, suc, ◌+◌, ◌==◌, ◌/◌, ◌%◌, ◌&&◌, ◌||◌, not, Bool, true, false, List, [], ◌∷◌, ◌++◌, All, IfOk, map, length, codes, decimal, Option, Some, None, Result, Ok, refl, sym, ap, subst, ◌∙◌, arith, if◌then◌else◌, is_some}
-use Rattle.std.proofs.lemmas.Bool.{ne_eqb, not-true, not_from_false, or_from, or_parts}
-use Rattle.std.proofs.lemmas.List.Elements.{All-from_recursion, recursion_from_All}
+use Rattle.std.proofs.Common.{◌≡◌, is_ok, set, ℕ, zero, suc, ◌+◌, ◌==◌, ◌/◌, ◌%◌, ◌&&◌, ◌||◌, not, Bool, true, false, List, [], ◌∷◌, ◌++◌, All, IfOk, map, length, codes, decimal, Option, Some, None, Result, Ok, refl, sym, ap, subst, ◌∙◌, arith, if◌then◌else◌, is_some, nat_lt}
 use Rattle.std.proofs.lemmas.List.Folds.{list_any-append}
 use Rattle.std.specs.Fmt.{digit_glyph, digits, digits_onto}
-use Rattle.std.specs.List.{AllByRecursion as Every}
-use Rattle.std.specs.Option.{IfSome}
-use Rattle.std.specs.Prelude.{nat_lt}
 use Rattle.c11_macros.specs.Call.{Call, Role, opening, closing, comma, other, apart, arguments_for, call_of, call_step, counts_for, filled_up, given, is_nothing, onto, onto_argument, role_of}
 use Rattle.c11_macros.specs.Expansion as expansion
-use Rattle.c11_macros.specs.Expansion.{Case, stays, replaced, unclosed, misfit, called, asked, call_result, call_case, case_of, defined_case, fitted_case, form_case, is_looked_up, list_of, looked_up_case, with_first, Expands, Each, Rescans}
-use Rattle.c11_macros.specs.Hidden.{Failure, Hidden, HideSet, Provenance, meet, with_name}
-use Rattle.c11_macros.proofs.OneLineLists.{both}
-use Rattle.c11_macros.specs.Macros.{Definition, Form, IsOneLineList, Macros, Replacement, escaped, file_name, function_like, items, line_number, list_at, object_like}
-use Rattle.sc_model.specs.Token.{Item}
 use Rattle.c11_macros.specs.Runs as runs
-use Rattle.c11_macros.specs.Runs.{End, over, waits, fails, Leaves, within, beyond, Passes, Runs, Settles, Uses}
-use Rattle.c11_macros.specs.Substitution.{argument, is_quoted_kind, list_slots, quoted_spelling, spellings, spellings_after, substituted, wanted_of}
-use Rattle.sc_expand.specs.OneLine.{AreOneLine, IsInPlace, IsOneLine}
-use Rattle.sc_model.specs.Bytes.{has_no_newline, same_bytes}
-use Rattle.sc_model.specs.Token.{Place}
+use Rattle.sc_expand.proofs.Facts.{All-from_recursion, both, ne_eqb, not-true, not_from_false, or_from, or_parts, recursion_from_All}
 use Rattle.sc_expand.proofs.Substituting.{Lasts, argument-of, every-append, ok-map, ok-then, substituted-of}
+use Rattle.sc_expand.proofs.Terms.{AllByRecursion as Every, AreOneLine, Case, Definition, Each, End, Expands, Failure, Form, HiddenToken as Hidden, HideSet, IfSome, IsInPlace, IsOneLine, IsOneLineList, Item, Leaves, Macros, Passes, Provenance, Replacement, Rescans, Runs, Settles, Uses, argument, asked, beyond, call_case, call_result, called, case_of, defined_case, escaped, fails, file_name, fitted_case, form_case, function_like, has_no_newline, is_looked_up, is_quoted_kind, items, line_number, list_at, list_of, list_slots, looked_up_case, meet, misfit, object_like, over, quoted_spelling, replaced, same_bytes, spellings, spellings_after, stays, substituted, unclosed, waits, wanted_of, with_first, with_name, within}
+use Rattle.sc_model.specs.Token.{Place}
 
 every-set : {A : Type 0} (C : A → Type 0) (xs : List A) (n : ℕ) (x : A) → Every C xs → C x → Every C (set xs n x)
 every-set C [] n x h k = tt

@@ -1,19 +1,11 @@
 -- What the state behind a step comes to, the state before it comes to as well, in more steps.
 use Rattle.std.proofs.Common.{◌≡◌, ℕ, ◌*◌, ◌<◌, true, List, [], ◌∷◌, ◌++◌, append_assoc, append-nil, map, is_ok, Result, Ok, Err, refl, sym, ap, ◌∙◌, subst, arith, if◌then◌else◌}
 use Rattle.c11_macros.specs.Expansion as expansion
-use Rattle.c11_macros.specs.Expansion.{Each, Expands, Rescans, asked, call_result, called, case_of, list_of, none, object_result, on, refused, with_first}
-use Rattle.c11_macros.specs.Hidden.{Failure, Hidden, Provenance, failure_at, meet, with_name}
-use Rattle.c11_macros.specs.Macros.{Definition, Macros}
-use Rattle.c11_macros.specs.Results.{result_and_then}
-use Rattle.c11_macros.specs.Runs.{after_these}
-use Rattle.c11_macros.specs.Substitution.{Slot, argument, list_slots, put_together, wanted_of}
-use Rattle.c11_macros.specs.Trace.{Trace, looked_up_at, no_trace, trace, trace_each, trace_rescan}
 use Rattle.sc_expand.proofs.PlainArguments.{replaced_with, supplied}
 use Rattle.sc_expand.proofs.PlainCompletes.{Completes, asks, looked, refuses, replaces, resumes, scanned, scans, steps}
 use Rattle.sc_expand.proofs.PlainNames.{Covers, covers-back, covers-both, covers-front, covers-same, covers-then}
+use Rattle.sc_expand.proofs.Terms.{Definition, Each, Expands, Fails, Failure, HiddenToken as Hidden, IsTemplate, Macros, Moves, Provenance, Rescans, Slot, State, Trace, UnterminatedCall, Waiting, WrongArguments, after_these, argument, asked, call_result, called, case_of, expanding, failure_at, gathered, list_of, list_slots, looked_up_at, meet, no_trace, none, object_result, on, put_together, refused, replacement_of, result_and_then, scanning, trace, trace_each, trace_rescan, waiting, wanted_of, with_expanded, with_first, with_name}
 use Rattle.sc_expand.specs.Plain as plain
-use Rattle.sc_expand.specs.Plain.{Fails, IsTemplate, Moves, State, Waiting, expanding, gathered, replacement_of, scanning, waiting, with_expanded}
-use Rattle.sc_model.specs.declared.cause.Cause.TheVariants.{UnterminatedCall, WrongArguments}
 
 after-stay : {P : Type 0} (out : List (Hidden P)) (t : Hidden P) (r : Result (List (Hidden P)) (Failure P)) → after_these out (with_first t r) ≡ after_these (out ++ t ∷ []) r
 after-stay out t (Ok list) = ap Ok (sym (append_assoc out (t ∷ []) list))

@@ -1,8 +1,7 @@
 -- Tables that define some names alike.
 use Rattle.std.proofs.Common.{◌≡◌, ℕ, List, [], ◌∷◌, ◌++◌, subst}
-use Rattle.c11_macros.specs.Macros.{Macros}
-use Rattle.c11_macros.specs.Trace.{Agree}
-use Rattle.c11_macros.proofs.Agreement.{agree-back, agree-front}
+use Rattle.sc_expand.proofs.Facts.{agree-back, agree-front}
+use Rattle.sc_expand.proofs.Terms.{Agree, Macros}
 
 agree-both : (one two : Macros) (xs ys : List (List ℕ)) → Agree one two xs → Agree one two ys → Agree one two (xs ++ ys)
 agree-both one two [] ys first second = second

@@ -1,24 +1,12 @@
 -- Expansion commutes with a map of what is kept of the places of tokens.
 use Rattle.std.proofs.Common.{◌≡◌, is_ok, ℕ, zero, suc, ◌==◌, ◌&&◌, ◌||◌, Bool, true, false, List, [], ◌∷◌, ◌++◌, map, length, codes, Option, Some, None, Result, Ok, Err, refl, sym, ap, subst, ◌∙◌, if◌then◌else◌, is_some, not, cond}
-use Rattle.std.proofs.lemmas.List.{length-map, map-append, map-set}
-use Rattle.std.proofs.Math.ListN.{get_or-map}
-use Rattle.std.specs.Option.{option_map}
-use Rattle.c11_macros.proofs.Agreement.{EachBy, RescansBy}
 use Rattle.c11_macros.specs.Call.{Call, Role, opening, closing, comma, other, apart, arguments_for, call_of, call_step, counts_for, filled_up, given, is_nothing, onto, onto_argument, role_of}
 use Rattle.c11_macros.specs.Expansion.{Case, stays, replaced, unclosed, misfit, called, asked, call_case, call_result, case_of, defined_case, fitted_case, form_case, is_looked_up, list_of, looked_up_case, object_result, with_first, Expands, empty, stay, object, unterminated, miscounted, call, Each, next, none, stops, Rescans, on, refused}
-use Rattle.c11_macros.specs.Hidden.{Failure, Hidden, HideSet, Provenance, failure_at, meet, no_names, with_name}
-use Rattle.c11_macros.specs.Macros.{Definition, Form, Macros, function_like, list_at, object_like}
-use Rattle.sc_model.specs.Token.{Item}
-use Rattle.c11_macros.specs.Results.{result_and_then, result_map}
 use Rattle.c11_macros.specs.Substitution as substitution
 use Rattle.c11_macros.specs.Substitution.{Part, Piece, Slot, all_glued, argument, argument_pieces, begins_paste, filled, filled_by, for_parameter, for_paste, glued, hidden_by, hiding, is_deleted, is_empty, is_text_kind, joined, kept, list_slots, literal_of, operator, or_placemarker, parts_of, put_together, wanted_of, pasted_as, piece, pieces_of, placemarker, quoted_spelling, slot_of, slots, spellings, spellings_after, stringized, substituted, tokens_of, with_space}
 use Rattle.c11_macros.specs.Trace.{ExpandsBy, Trace, after_step, both, failing, looked_up_at, looks_up, stands, takes, taking, taking_call, trace, trace_each, trace_rescan}
-use Rattle.c11_tokens.specs.Relex.{relexed}
-use Rattle.sc_expand.specs.Moved.{IsKept, moved, moved_answer, moved_failure}
-use Rattle.sc_model.specs.declared.cause.Cause.TheVariants.{BadStringize}
-use Rattle.sc_model.specs.declared.kind.Kind.{Kind}
-use Rattle.sc_model.specs.declared.kind.Kind.TheVariants.{Text}
-use Rattle.sc_model.specs.Bytes.{same_bytes}
+use Rattle.sc_expand.proofs.Facts.{EachBy, RescansBy, get_or-map, length-map, map-append, map-set}
+use Rattle.sc_expand.proofs.Terms.{BadStringize, Definition, Failure, Form, HiddenToken as Hidden, HideSet, IsKept, Item, Kind, Macros, Provenance, Text, failure_at, function_like, list_at, meet, moved, moved_answer, moved_failure, no_names, object_like, option_map, relexed, result_and_then, result_map, same_bytes, with_name}
 
 -- ---- steps of which each may fail
 

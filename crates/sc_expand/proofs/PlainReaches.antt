@@ -2,12 +2,10 @@
 -- step leaves fewer.
 use Rattle.std.proofs.Common.{ℕ, ◌<◌, List, [], append-nil, Result, Ok, Err, sym, ◌∙◌, subst, arith}
 use Rattle.c11_macros.specs.Expansion.{Expands, IsWithin, empty}
-use Rattle.c11_macros.specs.Hidden.{Failure, Hidden, Provenance}
-use Rattle.c11_macros.specs.Macros.{Macros}
-use Rattle.c11_macros.proofs.RunExpands.{these-none}
+use Rattle.sc_expand.proofs.Facts.{these-none}
 use Rattle.sc_expand.proofs.PlainCompletes.{Completes, ends, scanned, scans, size, size-is}
 use Rattle.sc_expand.proofs.PlainMoves.{fails-by, move-back}
-use Rattle.sc_expand.specs.Plain.{Fails, Leads, Moves, State, no_step, scanning, step}
+use Rattle.sc_expand.proofs.Terms.{Fails, Failure, HiddenToken as Hidden, Leads, Macros, Moves, Provenance, State, no_step, scanning, step}
 
 module _ {P : Type 0} (provenance : Provenance P) (macros : Macros) where
   abbrev Answer : Type 0

@@ -1,13 +1,11 @@
 -- What the loop keeps at a configuration of a list with an open end: it stands between two names of
 -- the list, or in the expansion of one.
 use Rattle.std.proofs.Common.{◌≡◌, List, [], ◌∷◌, ◌++◌, append-nil, length, refl, sym, ap, ◌∙◌, subst, arith}
-use Rattle.c11_macros.specs.Hidden.{Failure, Hidden, Provenance}
-use Rattle.c11_macros.specs.Macros.{Macros}
 use Rattle.c11_macros.specs.Runs.{Passes, begins, goes_on, Runs, Settles, Uses, whole, open_end, IsHeld, held, fails, over, waits}
 use Rattle.sc_expand.proofs.NameRuns.{IsInFront, NameReaches, fails-runs, name-move, name-over, name-start, name-waits, tail-is}
+use Rattle.sc_expand.proofs.Terms.{Fails, Failure, HiddenToken as Hidden, Macros, Moves, Provenance, State, expanding, scanning, waiting}
 use Rattle.sc_expand.specs.Open.{LeadsOn, Waits, alone, no_step, open_call, step}
 use Rattle.sc_expand.specs.Plain as plain
-use Rattle.sc_expand.specs.Plain.{Fails, Moves, State, expanding, scanning, waiting}
 
 module _ {P : Type 0} (provenance : Provenance P) (macros : Macros) where
   -- a name is being expanded

@@ -1,17 +1,8 @@
 -- Finitely many names are defined by a table, at each configuration.
 use Rattle.std.proofs.Common.{◌≡◌, ℕ, ◌||◌, Bool, true, false, List, [], ◌∷◌, map, Some, refl, sym, ap, ◌∙◌, if◌then◌else◌}
-use Rattle.std.specs.List.{list_any}
-use Rattle.std.specs.Option.{option_map}
-use Rattle.c11_macros.specs.Expansion.{IsWithin}
-use Rattle.c11_macros.specs.Macros.{Definition}
-use Rattle.sc_base.specs.declared.id.Name.{Name}
-use Rattle.sc_macro.specs.Seen.{seen_definition, text_of}
-use Rattle.sc_model.proofs.ByteLemmas.{same_bytes-refl, same_bytes-true}
-use Rattle.sc_model.specs.Bytes.{same_bytes}
-use Rattle.sc_model.specs.Sets.{Sets}
+use Rattle.sc_expand.proofs.Facts.{same_bytes-refl, same_bytes-true}
+use Rattle.sc_expand.proofs.Terms.{Definition, IsWithin, MacroTable, Name, Sets, list_any, macros_at, macros_in, option_map, same_bytes, seen_definition, stored_at, text_of}
 use Rattle.sc_table.specs.declared.entry.Entry.{Entry}
-use Rattle.sc_table.specs.declared.table.MacroTable.{MacroTable}
-use Rattle.sc_table.specs.Table.{macros_at, macros_in, stored_at}
 
 -- the names of the entries
 abbrev pub entry_names : List (List ℕ) → List (Name × Entry) → List (List ℕ)

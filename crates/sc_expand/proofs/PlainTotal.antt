@@ -1,8 +1,7 @@
 -- Sums over all configurations.
-use Rattle.std.proofs.Common.{◌≡◌, ◌⊎◌, inl, inr, ℕ, zero, suc, ◌+◌, ◌<◌, ◌≤◌, ◌≢◌, Bool, true, false, true≢false, List, [], ◌∷◌, length, refl, sym, ap, subst, arith, if◌then◌else◌}
-use Rattle.std.proofs.lemmas.Bool.{cases_eq}
-use Rattle.std.specs.Prelude.{slice_index}
-use Rattle.sc_model.specs.Sets.{IsConfig}
+use Rattle.std.proofs.Common.{◌≡◌, ◌⊎◌, inl, inr, ℕ, zero, suc, ◌+◌, ◌<◌, ◌≤◌, ◌≢◌, Bool, true, false, true≢false, List, [], ◌∷◌, length, refl, sym, ap, subst, arith, if◌then◌else◌, slice_index}
+use Rattle.sc_expand.proofs.Facts.{cases_eq}
+use Rattle.sc_expand.proofs.Terms.{IsConfig}
 
 -- the sum of f over the numbers below a bound
 abbrev pub sum_below : ℕ → (ℕ → ℕ) → ℕ

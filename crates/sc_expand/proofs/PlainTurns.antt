@@ -1,14 +1,10 @@
 -- A turn of the loop: at each configuration one step, or none.
 use Rattle.std.proofs.Common.{◌≡◌, ◌⊎◌, inl, inr, ℕ, ◌<◌, ◌≤◌, Bool, true, List, [], ◌∷◌, subst, arith}
-use Rattle.c11_macros.specs.Expansion.{IsWithin}
-use Rattle.c11_macros.specs.Hidden.{Failure, Hidden, Provenance}
-use Rattle.c11_macros.specs.Macros.{Macros}
 use Rattle.sc_expand.proofs.PlainCompletes.{size}
 use Rattle.sc_expand.proofs.PlainReaches.{size-move, size-pos}
 use Rattle.sc_expand.proofs.PlainTotal.{total_of, total_of-le, total_of-less}
+use Rattle.sc_expand.proofs.Terms.{Fails, Failure, HiddenToken as Hidden, IsConfig, IsWithin, Macros, Moves, Provenance, State, Waiting, expanding}
 use Rattle.sc_expand.specs.Plain as plain
-use Rattle.sc_expand.specs.Plain.{Fails, Moves, State, Waiting, expanding}
-use Rattle.sc_model.specs.Sets.{IsConfig}
 
 -- ---- calls that wait for one another
 

@@ -1,17 +1,9 @@
 -- A token that is put out: what each configuration sees, and that each token is some one's.
 use Rattle.std.proofs.Common.{◌≡◌, ◌∙◌, ◌++◌, ◌∷◌, ℕ, List, [], All, ap, append-nil, subst, sym, if◌then◌else◌}
-use Rattle.std.proofs.lemmas.List.Elements.{All-append, All-cons, All-head, All-nil, All-tail}
-use Rattle.sc_base.specs.declared.id.Cond.{Cond}
+use Rattle.sc_expand.proofs.Facts.{All-append, All-cons, All-head, All-nil, All-tail, IsConfig-Keeps, map-one}
 use Rattle.sc_expand.proofs.SeenLemmas.{AreHeld-append, seen_at-append}
 use Rattle.sc_expand.proofs.TakingLemmas.{AreHeld-single}
-use Rattle.sc_expand.specs.Seen.{AreHeld, IsHeldToken, Stores, seen_at}
-use Rattle.sc_expand.specs.Unchanged.{IsPushed, absent, pushed}
-use Rattle.sc_guarded.proofs.ItemLemmas.{map-one}
-use Rattle.sc_hoist.specs.Alike.{AreAlike, IsAlike}
-use Rattle.sc_model.proofs.SetLemmas.{IsConfig-Keeps}
-use Rattle.sc_model.specs.Sets.{Sets, IsCond, IsConfig, IsNever, Keeps}
-use Rattle.sc_subst.specs.declared.hidden.Hidden.{Hidden}
-use Rattle.sc_subst.specs.Seen.{seen_hidden}
+use Rattle.sc_expand.proofs.Terms.{AreAlike, AreHeld, Cond, Hidden, IsAlike, IsCond, IsConfig, IsHeldToken, IsNever, IsPushed, Keeps, Sets, Stores, absent, pushed, seen_at, seen_hidden}
 
 abbrev Item : Type 0
 Item = Cond × Hidden

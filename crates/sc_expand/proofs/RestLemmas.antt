@@ -1,11 +1,8 @@
 -- The list of a rest, of which the first tokens stand under a condition of their own.
 use Rattle.std.proofs.Common.{◌≡◌, ℕ, zero, suc, ◌<◌, ◌≤◌, ◌-◌, List, [], ◌∷◌, ◌++◌, All, Some, drop, length, length-drop, map, slice_get, take, refl, sym, ap, subst, ◌∙◌, arith}
-use Rattle.std.proofs.lemmas.List.Elements.{All-map}
-use Rattle.std.proofs.lemmas.Option.{same_Some}
-use Rattle.sc_base.specs.declared.id.Cond.{Cond}
+use Rattle.sc_expand.proofs.Facts.{All-map, same_Some}
+use Rattle.sc_expand.proofs.Terms.{Cond, DropsAlike, Hidden, items_of}
 use Rattle.sc_expand.specs.declared.source.Rest.{Rest}
-use Rattle.sc_expand.specs.WorkLists.{DropsAlike, items_of}
-use Rattle.sc_subst.specs.declared.hidden.Hidden.{Hidden}
 
 module _ {A B : Type 0} (f g : A → B) where
   -- the first n items by one function, the others by another

@@ -1,20 +1,12 @@
 -- Lists whose first items are restricted, of which the last items stand under one condition.
 use Rattle.std.proofs.Common.{◌≡◌, ◌<◌, ◌≤◌, Bool, ℕ, zero, suc, ◌+◌, ◌&&◌, List, [], ◌∷◌, ◌++◌, All, Some, map, take, drop, length, min, cond, Ordering, Less, Equal, Greater, set, get_or, slice_get, ap, sym, ◌∙◌, refl, subst, arith, add-zero, append_assoc}
-use Rattle.std.proofs.Math.Seq.{get_or-append_seam, set-append_seam}
-use Rattle.std.proofs.lemmas.List.{get_or_append_left, length-append, length-map, nil_from_length, set-append_left, take-append-drop}
-use Rattle.std.proofs.lemmas.List.Elements.{All-take}
 use Rattle.std.specs.Cmp.{ranks}
 use Rattle.std.specs.Ordering.{MatchOrdering, is_lt, nat_cmp, ord_min}
-use Rattle.sc_base.specs.declared.id.Cond.{Cond}
-use Rattle.sc_expand.proofs.WorkListLemmas.{Restricted, has_each-Keeps, restricted_alike, restricted_more}
-use Rattle.sc_expand.specs.WorkLists.{KeepsItems, RestrictsFirst, items_of}
-use Rattle.sc_expand.specs.declared.source.Rest.{Rest}
-use Rattle.sc_guarded.proofs.ItemLemmas.{items_at-Keeps}
-use Rattle.sc_hoist.specs.Alike.{AreAlike}
-use Rattle.sc_model.proofs.SetLemmas.{Denotes-self, IsConfig-Keeps, IsConfig-kept, Keeps-refl, Keeps-trans}
-use Rattle.sc_model.specs.Sets.{Sets, IsConfig, IsCond, Denotes, Keeps}
-use Rattle.sc_subst.specs.declared.hidden.Hidden.{Hidden}
 use Rattle.sc_expand.proofs.AlikeLemmas.{none-told}
+use Rattle.sc_expand.proofs.Facts.{All-take, Denotes-self, IsConfig-Keeps, IsConfig-kept, Keeps-refl, Keeps-trans, get_or-append_seam, get_or_append_left, items_at-Keeps, length-append, length-map, nil_from_length, set-append_left, set-append_seam, take-append-drop}
+use Rattle.sc_expand.proofs.Terms.{AreAlike, Cond, Denotes, Hidden, IsCond, IsConfig, Keeps, KeepsItems, RestrictsFirst, Sets, items_of}
+use Rattle.sc_expand.proofs.WorkListLemmas.{Restricted, has_each-Keeps, restricted_alike, restricted_more}
+use Rattle.sc_expand.specs.declared.source.Rest.{Rest}
 
 -- the lesser number, by the order of numbers
 pub ord_min-min : (a b : ℕ) → ord_min nat_cmp a b ≡ min a b

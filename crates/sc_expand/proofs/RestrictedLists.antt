@@ -1,13 +1,9 @@
 -- Lists that are restricted to the configurations of a condition.
 use Rattle.std.proofs.Common.{◌≡◌, ◌&&◌, Bool, true, false, ℕ, List, [], ◌∷◌, All, ap, ◌∙◌, sym, if◌then◌else◌}
-use Rattle.std.proofs.lemmas.List.Elements.{All-cons, All-head, All-nil, All-tail}
-use Rattle.sc_expand.specs.Unchanged as unchanged
-use Rattle.sc_expand.specs.Unchanged.{IsRestricted, empty}
-use Rattle.sc_base.specs.declared.id.Cond.{Cond}
-use Rattle.sc_guarded.specs.Items.{items_at}
-use Rattle.sc_hoist.specs.Alike.{AreAlike, IsAlike}
-use Rattle.sc_model.specs.Sets.{IsCond, IsConfig, IsNever, Sets}
 use Rattle.sc_expand.proofs.AlikeLemmas.{none-told}
+use Rattle.sc_expand.proofs.Facts.{All-cons, All-head, All-nil, All-tail}
+use Rattle.sc_expand.proofs.Terms.{AreAlike, Cond, IsAlike, IsCond, IsConfig, IsNever, IsRestricted, Sets, empty, items_at}
+use Rattle.sc_expand.specs.Unchanged as unchanged
 
 module _ {T : Type 0} (s : Sets) (live : ℕ) where
   one-kept : (has here : Bool) (x : T) (ts us : List T) → us ≡ (if here then ts else []) → (if has && here then x ∷ us else us) ≡ (if here then (if has then x ∷ ts else ts) else [])

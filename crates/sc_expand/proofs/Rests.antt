@@ -1,42 +1,18 @@
 -- What drops out of the frame on top, with all that is next for refused configurations alone, and
 -- what does not: no configuration that was not refused moves.
 use Rattle.std.proofs.Common.{◌≡◌, ℕ, zero, suc, ◌-◌, ◌&&◌, Bool, true, false, true≢false, List, [], ◌∷◌, ◌++◌, All, drop, length, map, take, length-append, append-nil, Option, Some, None, slice_get, refl, sym, ap, subst, ◌∙◌, arith}
-use Rattle.std.proofs.lemmas.List.Elements.{All-head, All-pop, All-tail}
-use Rattle.c11_macros.specs.Hidden.{Provenance}
-use Rattle.c11_macros.specs.Macros.{Macros}
-use Rattle.sc_base.specs.declared.id.Cond.{Cond}
-use Rattle.sc_base.specs.declared.place.Place.{Place}
 use Rattle.sc_expand.proofs.AlikeLemmas.{All-at, All-but-tail, IsAlikeExpansion-Keeps, enclosing-last, enclosing-others}
 use Rattle.sc_expand.proofs.BottomLemmas.{behind-Keeps, behind-other, bottom-held, bottom-less, bottom-same}
-use Rattle.sc_expand.proofs.MachineCalls.{calls_at-append, leave-other}
+use Rattle.sc_expand.proofs.Facts.{All-head, All-pop, All-tail, IsConfig-Keeps, IsConfig-kept, Keeps-refl, cond-false, false_from_ne_true, slice_get-seam}
 use Rattle.sc_expand.proofs.KeptLemmas.{gone-first, gone-nothing, gone-then}
+use Rattle.sc_expand.proofs.MachineCalls.{calls_at-append, leave-other}
 use Rattle.sc_expand.proofs.MachineLemmas.{Stands-Grows, state_in-Grows}
 use Rattle.sc_expand.proofs.SeenLemmas.{AreHeld-tail, Grows-refl, Grows-trans, IsHeldExpansion-Grows, at-Grows}
+use Rattle.sc_expand.proofs.Terms.{AreAlike, AreAlikeRefusals, AreHeld, At, Call, Cond, Denotes, Enclosing, EndsBy, Expansion, Frame, Grows, Hidden, IsAlike, IsAlikeCall, IsAlikeEnclosing, IsAlikeFrame, IsCond, IsConfig, IsDropped, IsHeldCall, IsHeldEnclosing, IsHeldExpansion, IsHeldFrame, IsHeldRefusals, IsNever, IsReady, IsRested, Keeps, KeepsFirst, Macros, Moves, Place, Progress, Provenance, Sets, Stands, Stores, Waits, at, behind_at, bottom, bottom_by, calls_at, ends, ends_at, gone, items_at, last_of, next_by, next_of, no_others, others_at, put_by, rests, seen_at, seen_hidden, state_in, steps, view_at, waiting_at, with_end}
 use Rattle.sc_expand.proofs.UnchangedLemmas.{drops-first, drops-nothing, drops-then, never-empty, not-both}
-use Rattle.sc_expand.specs.Alike.{AreAlikeRefusals, IsAlikeCall, IsAlikeEnclosing, IsAlikeFrame, no_others, others_at}
-use Rattle.sc_expand.specs.Having.{behind_at}
-use Rattle.sc_expand.specs.declared.call.Call.{Call}
-use Rattle.sc_expand.specs.declared.expansion.Expansion.{Expansion}
-use Rattle.sc_expand.specs.declared.frame.Enclosing.{Enclosing}
-use Rattle.sc_expand.specs.declared.frame.Frame.{Frame}
-use Rattle.sc_expand.specs.Machine.{IsHeldExpansion, Progress, Stands, at, ends, ends_at, gone, rests, state_in, steps}
-use Rattle.sc_expand.specs.Open.{Waits}
-use Rattle.sc_expand.specs.Waiting as waiting
-use Rattle.sc_expand.specs.Waiting.{KeepsFirst}
 use Rattle.sc_expand.proofs.WaitingLemmas.{dropped-alike, dropped-left, kept-held, kept-later, left-then, rest-alike, same-left}
-use Rattle.sc_expand.specs.Plain.{Moves}
 use Rattle.sc_expand.specs.Running as running
-use Rattle.sc_expand.specs.Running.{IsDropped, IsReady, IsRested, bottom, bottom_by, last_of, next_by, next_of, put_by}
-use Rattle.sc_expand.specs.Seen.{AreHeld, Grows, IsHeldCall, IsHeldEnclosing, IsHeldFrame, IsHeldRefusals, Stores, calls_at, seen_at, view_at, waiting_at}
-use Rattle.sc_expand.specs.Turn.{At, EndsBy, with_end}
-use Rattle.sc_guarded.specs.Items.{items_at}
-use Rattle.sc_hoist.specs.Alike.{AreAlike, IsAlike}
-use Rattle.sc_model.proofs.SetLemmas.{IsConfig-Keeps, IsConfig-kept, Keeps-refl}
-use Rattle.sc_model.proofs.ListLemmas.{slice_get-seam}
-use Rattle.sc_model.specs.Sets.{Sets, Denotes, IsCond, IsConfig, IsNever, Keeps}
-use Rattle.sc_subst.specs.declared.hidden.Hidden.{Hidden}
-use Rattle.sc_subst.specs.Seen.{seen_hidden}
-use Rattle.std.proofs.lemmas.Bool.{cond-false, false_from_ne_true}
+use Rattle.sc_expand.specs.Waiting as waiting
 
 -- ---- what is next
 

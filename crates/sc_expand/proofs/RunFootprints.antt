@@ -1,26 +1,15 @@
 -- The footprint of a name is what its run took of the list and looked up.
 use Rattle.std.proofs.Common.{◌≡◌, ℕ, suc, ◌+◌, ◌-◌, ◌<◌, nat_le, Bool, true, false, List, [], ◌∷◌, ◌++◌, append_assoc, append-nil, drop, length, length-append, map, Result, Ok, Err, refl, sym, ap, ◌∙◌, subst, arith, if◌then◌else◌, inl, inr}
-use Rattle.std.proofs.lemmas.Bool.{leb-false, leb-true}
-use Rattle.std.proofs.lemmas.List.{drop_at}
-use Rattle.c11_macros.proofs.Halting.{halts}
-use Rattle.c11_macros.proofs.LongerLists.{last-stays}
-use Rattle.c11_macros.proofs.Resuming.{leaves-source}
-use Rattle.c11_macros.proofs.RunExpands.{leaves-split}
 use Rattle.c11_macros.specs.Expansion as expansion
-use Rattle.c11_macros.specs.Expansion.{Each, Expands, IsWithin, Rescans, asked, call_result, called, case_of, next, none, object_result, on, refused, replaced, stops}
 use Rattle.c11_macros.specs.Footprint as arriving
-use Rattle.c11_macros.specs.Footprint.{Arrives, Footprint, footprint, footprint_from, with_names}
-use Rattle.c11_macros.specs.Hidden.{Failure, Hidden, Provenance}
-use Rattle.c11_macros.specs.Macros.{Definition, Macros}
 use Rattle.c11_macros.specs.Runs as run
-use Rattle.c11_macros.specs.Runs.{End, Leaves, Passes, Runs, Uses, fails, is_last_name, no_uses, over, then_uses, using, waits}
 use Rattle.c11_macros.specs.Trace as used
-use Rattle.c11_macros.specs.Trace.{Use, looked_up_at, trace, trace_each, trace_rescan}
+use Rattle.sc_expand.proofs.Facts.{drop_at, halts, last-stays, leaves-source, leaves-split, leb-false, leb-true}
 use Rattle.sc_expand.proofs.Lower.{lower-min}
 use Rattle.sc_expand.proofs.NameRuns.{leaves-one}
 use Rattle.sc_expand.proofs.PassesLaws.{over-source}
 use Rattle.sc_expand.proofs.PlainNames.{Covers, covers-back, covers-both, covers-front, covers-same, covers-then}
-use Rattle.sc_expand.specs.FootprintSteps.{lower_of}
+use Rattle.sc_expand.proofs.Terms.{Arrives, Definition, Each, End, Expands, Failure, Footprint, HiddenToken as Hidden, IsWithin, Leaves, Macros, Passes, Provenance, Rescans, Runs, Use, Uses, asked, call_result, called, case_of, fails, footprint, footprint_from, is_last_name, looked_up_at, lower_of, next, no_uses, none, object_result, on, over, refused, replaced, stops, then_uses, trace, trace_each, trace_rescan, using, waits, with_names}
 
 -- ---- footprints of what was used
 

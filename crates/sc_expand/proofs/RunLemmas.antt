@@ -1,35 +1,18 @@
 -- What holds at each turn of the loop, from the first to the last.
 use Rattle.std.proofs.Common.{◌≡◌, ◌⊎◌, inl, inr, ℕ, ◌<◌, ◌≤◌, Bool, true, false, true≢false, List, [], ◌∷◌, ◌++◌, All, append-nil, length, refl, sym, ap, subst, ◌∙◌, arith, if◌then◌else◌}
-use Rattle.std.proofs.lemmas.Bool.{cases_lt}
-use Rattle.std.proofs.lemmas.List.Elements.{All-nil}
-use Rattle.c11_macros.specs.Expansion.{IsWithin}
-use Rattle.c11_macros.specs.Hidden as model
-use Rattle.c11_macros.specs.Hidden.{Provenance}
-use Rattle.c11_macros.specs.Macros.{Macros}
-use Rattle.c11_macros.specs.Runs.{Settles}
-use Rattle.sc_base.specs.declared.id.Cond.{Cond}
-use Rattle.sc_base.specs.declared.place.Place.{Place}
+use Rattle.sc_expand.proofs.Facts.{All-nil, IsConfig-Keeps, IsConfig-kept, cases_lt}
 use Rattle.sc_expand.proofs.MachineLemmas as told
 use Rattle.sc_expand.proofs.MachineLemmas.{IsTold, progress-step, told-progress}
 use Rattle.sc_expand.proofs.PlainSettles.{Opens, opens-end, opens-start}
 use Rattle.sc_expand.proofs.PlainTurns.{IsTurn, steps_left, turn-le, turn-less}
 use Rattle.sc_expand.proofs.SeenLemmas.{AreHeld-Grows, Grows-refl}
+use Rattle.sc_expand.proofs.Terms.{Cond, Enclosing, Expansion, Frame, Grows, HasEnded, Hidden, HiddenToken, IsApart, IsConfig, IsDone, IsExpansion, IsHeldExpansion, IsNever, IsRested, IsTurned, IsUntouched, IsWithin, KeepsLeft, Macros, Place, Progress, Provenance, PutsOut, Settles, Stands, Stores, Waiting, at, bottom, bottom_by, calls_at, ends, ends_at, expanding, failures_at, gone, left_at, on_top, provenance_of, put_by, put_out, rests, scanning, seen_at, state_by, state_in, state_of, steps, view_at, waiting_at}
 use Rattle.sc_expand.proofs.Turning.{puts-nothing, puts-same}
 use Rattle.sc_expand.proofs.UnchangedLemmas.{drops-pass, looks-later, passes-all, passes-Keeps, passes-nothing, passes-then}
-use Rattle.sc_expand.specs.declared.expansion.Expansion.{Expansion}
-use Rattle.sc_expand.specs.declared.frame.Enclosing.{Enclosing}
-use Rattle.sc_expand.specs.declared.frame.Frame.{Frame}
-use Rattle.sc_expand.specs.Machine.{IsExpansion, IsHeldExpansion, Progress, Stands, at, ends, ends_at, gone, on_top, rests, state_in, steps}
-use Rattle.sc_expand.specs.Plain.{Waiting, expanding, scanning}
 use Rattle.sc_expand.specs.Running as running
-use Rattle.sc_expand.specs.Running.{HasEnded, IsApart, IsDone, IsRested, IsTurned, IsUntouched, KeepsLeft, PutsOut, bottom, bottom_by, left_at, put_by, put_out}
-use Rattle.sc_expand.specs.Seen.{Grows, Stores, calls_at, failures_at, provenance_of, seen_at, state_by, state_of, view_at, waiting_at}
 use Rattle.sc_expand.specs.Turn as turn
 use Rattle.sc_expand.specs.Turn.{At, End, Ends, no_end, with_end}
-use Rattle.sc_model.proofs.SetLemmas.{IsConfig-Keeps, IsConfig-kept}
 use Rattle.sc_expand.specs.Unchanged.{IsRestricted, LooksUpNone, Passes}
-use Rattle.sc_model.specs.Sets.{IsConfig, IsNever}
-use Rattle.sc_subst.specs.declared.hidden.Hidden.{Hidden}
 
 -- what holds of an expansion that began so, at each configuration
 pub record IsRunning (files : List (List ℕ)) (macros : List ℕ → Macros) (old now : Stores) (was e : Expansion) : Type 0 where
@@ -94,14 +77,14 @@ module _ (files : List (List ℕ)) (macros : List ℕ → Macros) (old : Stores)
 -- ---- what is left at the bottom
 
 -- a state that scans the whole list has put out and left what the bottom has
-bottom-top : (st : Stores) (c : List ℕ) (o w : List (model.Hidden Place)) (frame : Frame) → state_of (view_at st frame c) ≡ scanning o w → (o ≡ seen_at st frame.out c) × (w ≡ seen_at st frame.work c)
+bottom-top : (st : Stores) (c : List ℕ) (o w : List (HiddenToken Place)) (frame : Frame) → state_of (view_at st frame c) ≡ scanning o w → (o ≡ seen_at st frame.out c) × (w ≡ seen_at st frame.work c)
 bottom-top st c o w frame is = by (calls_at st frame.calls.items c) is
   where
     by : (ws : List (Waiting Place)) → state_by (seen_at st frame.out c) (seen_at st frame.work c) ws ≡ scanning o w → (o ≡ seen_at st frame.out c) × (w ≡ seen_at st frame.work c)
     by [] is = (cc, cc)
     by (x ∷ xs) is = absurd (cc)
 
-pub bottom-state : (st : Stores) (c : List ℕ) (o w : List (model.Hidden Place)) (below : List Enclosing) (top : Frame) → state_in st below (view_at st top c) c ≡ scanning o w
+pub bottom-state : (st : Stores) (c : List ℕ) (o w : List (HiddenToken Place)) (below : List Enclosing) (top : Frame) → state_in st below (view_at st top c) c ≡ scanning o w
     → (o ≡ seen_at st (put_by below top) c) × (w ≡ seen_at st (bottom_by below top).work c)
 bottom-state st c o w [] top is = bottom-top st c o w top is
 bottom-state st c o w (e ∷ es) top is = by (st.sets.has e.call.cond.0 c) is
@@ -124,7 +107,7 @@ waits-on {a} (ends end was not same by) waits = ap (λ e. e.waiting) same ∙ ke
 
 -- ---- what is told at a configuration
 
-module _ {provenance : Provenance Place} {macros : Macros} {source out left : List (model.Hidden Place)} {st : Stores} {c : List ℕ} {below : List Enclosing} {a : At} where
+module _ {provenance : Provenance Place} {macros : Macros} {source out left : List (HiddenToken Place)} {st : Stores} {c : List ℕ} {below : List Enclosing} {a : At} where
   told-stands : {asked : Bool} → IsTold provenance macros source out left st c below a asked → a.live ≡ true → Stands st c below a.view
   told-stands (told.unasked refused none) live = absurd (true≢false (sym live ∙ refused))
   told-stands (told.going live' none stands opens) live = stands
@@ -171,7 +154,7 @@ module _ {files : List (List ℕ)} {macros : List ℕ → Macros} {old now : Sto
           told-progress (provenance_of files) (macros c) now new c e.below.items after.below.items (seen_at old was.top.work c) (takes c) (progress c listed)
           (λ waits. let apart = running-apart c listed in (sym (left.put c there apart waits), sym (left.left c there apart waits))) (λ none o w is. scanned c listed (ap (λ x. x.waiting) none) o w is) (r.told c listed)
         where
-          scanned : (c : List ℕ) → IsConfig old.sets.arities c → now.sets.has e.refusals.waiting.0 c ≡ false → (o w : List (model.Hidden Place)) → state_in now e.below.items (view_at now e.top c) c ≡ scanning o w
+          scanned : (c : List ℕ) → IsConfig old.sets.arities c → now.sets.has e.refusals.waiting.0 c ≡ false → (o w : List (HiddenToken Place)) → state_in now e.below.items (view_at now e.top c) c ≡ scanning o w
               → (o ≡ seen_at now (put_out e) c) × (w ≡ left_at now e c)
           scanned c listed none o w is =
               let q = bottom-state now c o w e.below.items e.top is in
@@ -277,7 +260,7 @@ module _ {files : List (List ℕ)} {macros : List ℕ → Macros} {old now : Sto
       by (told.unasked refused none) = running.unasked (ap (λ a. a.failures) none) (nothing none refl)
       by (told.failed failure not one holds) = running.refused failure (ap (λ a. a.failures) one) (nothing one refl) holds
       by (told.waiting not one settles) =
-          running.settled (ap (λ a. a.failures) one) (subst (λ (p : List (model.Hidden Place) × List (model.Hidden Place)). Settles (provenance_of files) (macros c) (seen_at old was.top.work c) p.0 p.1) (λ i. (out i, left i)) settles)
+          running.settled (ap (λ a. a.failures) one) (subst (λ (p : List (HiddenToken Place) × List (HiddenToken Place)). Settles (provenance_of files) (macros c) (seen_at old was.top.work c) p.0 p.1) (λ i. (out i, left i)) settles)
       by (told.going live none stands opens) =
           let calls : calls_at now e.top.calls.items c ≡ [] = ap (λ l. calls_at now l c) ended.calls in
           let state : state_in now e.below.items (view_at now e.top c) c ≡ scanning (seen_at now e.top.out c) [] =

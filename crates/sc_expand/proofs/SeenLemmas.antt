@@ -1,37 +1,9 @@
 -- What a configuration has of held lists, calls and frames stays while the stores grow.
 use Rattle.std.proofs.Common.{◌≡◌, ℕ, Bool, true, false, List, [], ◌∷◌, ◌++◌, All, map, reverse, get_or, Ok, refl, sym, ap, subst, ◌∙◌, if◌then◌else◌}
-use Rattle.std.proofs.lemmas.List.{map-append, reverse-append}
-use Rattle.std.proofs.lemmas.List.Elements.{All-append, All-cons, All-head, All-nil, All-tail, All-weaker}
-use Rattle.c11_macros.specs.Hidden as model
-use Rattle.c11_macros.specs.Substitution.{filled_by}
-use Rattle.sc_base.proofs.Growth.{Extends-refl, Extends-trans}
-use Rattle.sc_base.specs.declared.fault.Fault.{Fault}
-use Rattle.sc_base.specs.declared.id.Cond.{Cond}
-use Rattle.sc_base.specs.declared.place.Place.{Place}
-use Rattle.sc_expand.specs.declared.call.Call.{Call}
-use Rattle.sc_expand.specs.declared.call.Template.{Template}
+use Rattle.sc_expand.proofs.Facts.{All-append, All-cons, All-head, All-nil, All-tail, All-weaker, Extends-refl, Extends-trans, IsHeldHidden-Extends, IsHeldSet-Extends, IsTable-Extends, IsTable-Keeps, Keeps-refl, Keeps-trans, faults_at-Keeps, hidden_later, hide_later, items_at-append, macros_at-Extends, macros_at-Keeps, map-append, reverse-append}
+use Rattle.sc_expand.proofs.Terms.{AreHeld, Call, Cond, Enclosing, Expansion, Fault, Frame, Grows, Hidden, HiddenToken, IsCond, IsConfig, IsHeldCall, IsHeldEnclosing, IsHeldExpansion, IsHeldFrame, IsHeldPartIn, IsHeldRefusals, IsHeldTemplate, IsHeldToken, IsTable, MacroTable, Part, Place, Refusals, Stores, Template, Waiting, Wanted, at, calls_at, ends_at, failures_at, filled_by, is_whole, items_at, macros_at, seen_at, seen_failure, seen_hidden, seen_part, seen_template, seen_wanted, view_at, waiting_at}
 use Rattle.sc_expand.specs.declared.call.Template.TheVariants.{Parts, Refused}
-use Rattle.sc_expand.specs.declared.call.Wanted.{Wanted}
-use Rattle.sc_expand.specs.declared.expansion.Expansion.{Expansion}
-use Rattle.sc_expand.specs.declared.frame.Enclosing.{Enclosing}
-use Rattle.sc_expand.specs.declared.frame.Frame.{Frame}
-use Rattle.sc_expand.specs.declared.refusals.Refusals.{Refusals}
-use Rattle.sc_expand.specs.Machine.{IsHeldExpansion, at, ends_at, is_whole}
-use Rattle.sc_expand.specs.Plain.{Waiting}
-use Rattle.sc_expand.specs.Seen.{AreHeld, Grows, IsHeldCall, IsHeldEnclosing, IsHeldFrame, IsHeldRefusals, IsHeldPartIn, IsHeldTemplate, IsHeldToken, Stores, calls_at, failures_at, seen_at, seen_failure, seen_template, seen_wanted, view_at, waiting_at}
-use Rattle.sc_guarded.proofs.ItemLemmas.{faults_at-Keeps, items_at-append}
-use Rattle.sc_guarded.specs.Items.{items_at}
-use Rattle.sc_model.proofs.SetLemmas.{Keeps-refl, Keeps-trans}
-use Rattle.sc_model.specs.Sets.{IsCond, IsConfig}
-use Rattle.sc_subst.proofs.Later.{IsHeldHidden-Extends, IsHeldSet-Extends, hidden_later, hide_later}
-use Rattle.sc_subst.specs.declared.hidden.Hidden.{Hidden}
-use Rattle.sc_subst.specs.declared.part.Part.{Part}
 use Rattle.sc_subst.specs.declared.part.Part.TheVariants as part
-use Rattle.sc_subst.specs.Parts.{seen_part}
-use Rattle.sc_subst.specs.Seen.{seen_hidden}
-use Rattle.sc_table.proofs.Growth.{macros_at-Extends, macros_at-Keeps, IsTable-Extends, IsTable-Keeps}
-use Rattle.sc_table.specs.declared.table.MacroTable.{MacroTable}
-use Rattle.sc_table.specs.Table.{IsTable, macros_at}
 
 pub Grows-refl : (st : Stores) → Grows st st
 Grows-refl st = record { sets = Keeps-refl st.sets; names = Extends-refl st.names; hides = Extends-refl st.hides }
@@ -164,7 +136,7 @@ module _ {old new : Stores} (grows : Grows old new) where
         let names = hide_later call.hide.0 held.hide grows.names grows.hides in
         record_same head template wanted expanded names
       where
-        record_same : {h k : model.Hidden Place} {t u : _} {w v : _} {x y : _} {n m : _} → h ≡ k → t ≡ u → w ≡ v → x ≡ y → n ≡ m
+        record_same : {h k : HiddenToken Place} {t u : _} {w v : _} {x y : _} {n m : _} → h ≡ k → t ≡ u → w ≡ v → x ≡ y → n ≡ m
             → (let one : Waiting Place = record { head = h; template = t; wanted = w; expanded = x; names = n } in one) ≡ record { head = k; template = u; wanted = v; expanded = y; names = m }
         record_same h t w x n = λ i. record { head = h i; template = t i; wanted = w i; expanded = x i; names = n i }
 

@@ -1,12 +1,9 @@
 -- What a settled list expands to where nothing follows it.
 use Rattle.std.proofs.Common.{◌≡◌, ℕ, Bool, true, false, List, [], ◌∷◌, ◌++◌, Option, Some, None, Ok, Err, refl, subst}
-use Rattle.c11_macros.proofs.LongerLists.{last-stays}
-use Rattle.c11_macros.proofs.RunExpands.{passes-expand, runs-expand, these-both}
 use Rattle.c11_macros.specs.Expansion as expansion
-use Rattle.c11_macros.specs.Expansion.{Expands, case_of, defined_case, form_case, is_looked_up, looked_up_case, unclosed}
-use Rattle.c11_macros.specs.Hidden.{Failure, Hidden, Provenance}
-use Rattle.c11_macros.specs.Macros.{Definition, Form, Macros, function_like, object_like}
 use Rattle.c11_macros.specs.Runs.{IsHeld, Runs, Settles, Uses, after_these, alone, call, held, is_last_name, object, open_call, open_end, stay, waits, whole}
+use Rattle.sc_expand.proofs.Facts.{last-stays, passes-expand, runs-expand, these-both}
+use Rattle.sc_expand.proofs.Terms.{Definition, Expands, Failure, Form, HiddenToken as Hidden, Macros, Provenance, case_of, defined_case, form_case, function_like, is_looked_up, looked_up_case, object_like, unclosed}
 use Rattle.sc_expand.specs.Open.{closed}
 
 -- ---- a name with nothing behind it is no open call

@@ -1,12 +1,9 @@
 -- Settling commutes with a map of what is kept of the places of tokens.
 use Rattle.std.proofs.Common.{◌≡◌, Bool, List, [], ◌∷◌, ◌++◌, map, refl, sym, ap, subst, ◌∙◌}
-use Rattle.std.proofs.lemmas.List.{map-append}
-use Rattle.c11_macros.specs.Expansion.{Case, case_of}
-use Rattle.c11_macros.specs.Hidden.{Failure, Hidden, Provenance}
-use Rattle.c11_macros.specs.Macros.{Macros}
 use Rattle.c11_macros.specs.Runs.{End, IsHeld, Leaves, Passes, Runs, Settles, Uses, alone, bad_call, bad_count, bad_object, begins, beyond, call, fails, goes_on, held, is_last_name, object, open_call, open_end, over, stay, used_up, waits, whole, within}
+use Rattle.sc_expand.proofs.Facts.{map-append}
 use Rattle.sc_expand.proofs.PlainPlaces.{all, call_result-moved, called-each-moved, carried, case_of-moved, moved_case, object_result-moved}
-use Rattle.sc_expand.specs.Moved.{IsKept, moved, moved_answer, moved_failure}
+use Rattle.sc_expand.proofs.Terms.{Case, Failure, HiddenToken as Hidden, IsKept, Macros, Provenance, case_of, moved, moved_answer, moved_failure}
 
 module _ {P Q : Type 0} (f : P → Q) where
   abbrev moved_end : End P → End Q

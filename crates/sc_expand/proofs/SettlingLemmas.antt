@@ -1,29 +1,11 @@
 -- A list before it is settled, and what the loop leaves of it.
 use Rattle.std.proofs.Common.{◌≡◌, ℕ, ◌<◌, List, [], All, drop, length, map, slice_get, Some, sym, ap, subst, ◌∙◌}
-use Rattle.std.proofs.lemmas.List.Elements.{All-nil, All-map}
-use Rattle.c11_macros.specs.Macros.{Macros}
-use Rattle.sc_base.specs.declared.fault.Fault.{Fault}
-use Rattle.sc_base.specs.declared.id.Cond.{Cond}
-use Rattle.sc_base.specs.declared.token.Token.{Token}
-use Rattle.sc_base.specs.Seen.{IsHeld}
 use Rattle.sc_expand.proofs.AlikeLemmas.{of-all, others-none}
 use Rattle.sc_expand.proofs.Ending.{bared}
+use Rattle.sc_expand.proofs.Facts.{All-map, All-nil}
 use Rattle.sc_expand.proofs.SeenLemmas.{AreHeld-nil}
-use Rattle.sc_expand.specs.Alike.{IsAlikeCall, IsAlikeExpansion, IsAlikeFrame, no_others, others_at}
-use Rattle.sc_expand.specs.declared.expansion.Expansion.{Expansion}
-use Rattle.sc_expand.specs.declared.frame.Enclosing.{Enclosing}
-use Rattle.sc_expand.specs.declared.settling.Settled.{Settled}
-use Rattle.sc_expand.specs.Machine.{IsHeldExpansion}
-use Rattle.sc_expand.specs.Running.{IsDone, IsUntouched, PutsOut}
-use Rattle.sc_expand.specs.Seen.{AreHeld, IsHeldCall, IsHeldEnclosing, Stores, failures_at, provenance_of, seen_at}
-use Rattle.sc_expand.specs.Settling.{IsHeldSettled, IsSettled}
-use Rattle.sc_expand.specs.Spans.{Becomes}
-use Rattle.sc_guarded.specs.Items.{items_at}
-use Rattle.sc_hoist.specs.Alike.{AreAlike, AreAlikeFaults, IsAlike}
-use Rattle.sc_model.specs.Sets.{IsCond, IsConfig, IsNever}
-use Rattle.sc_subst.specs.declared.hidden.Hidden.{Hidden}
-use Rattle.sc_subst.specs.Seen.{seen_hidden}
 use Rattle.sc_expand.proofs.TakingParts.{none-found}
+use Rattle.sc_expand.proofs.Terms.{AreAlike, AreAlikeFaults, AreHeld, Becomes, Cond, Enclosing, Expansion, Fault, Hidden, IsAlike, IsAlikeCall, IsAlikeExpansion, IsAlikeFrame, IsCond, IsConfig, IsDone, IsHeld, IsHeldCall, IsHeldEnclosing, IsHeldExpansion, IsHeldSettled, IsNever, IsSettled, IsUntouched, Macros, PutsOut, Settled, Stores, Token, failures_at, items_at, no_others, others_at, provenance_of, seen_at, seen_hidden}
 
 module _ (old : Stores) (e : Expansion) (list : List (Cond × Hidden)) (live : Cond) (fresh : IsUntouched old.sets e) (live_is : e.refusals.live ≡ live) (work : e.top.work ≡ list) where
   pub begun-held : (files : ℕ) → AreHeld old files list → IsCond old.sets live.0 → IsCond old.sets e.refusals.waiting.0 → IsHeldExpansion old files e

@@ -1,23 +1,9 @@
 -- What the first items of a list tell of the call of the name that stands first, where two
 -- configurations have the same of them.
 use Rattle.std.proofs.Common.{◌≡◌, ◌⊎◌, inl, inr, ℕ, zero, suc, ◌+◌, ◌<◌, ◌≤◌, Bool, true, false, List, [], ◌∷◌, ◌++◌, codes, drop, length, map, take, refl, sym, ap, ◌∙◌, arith, Option, Some, None, if◌then◌else◌}
-use Rattle.std.proofs.lemmas.List.{length-map, take-append-le}
-use Rattle.std.proofs.lemmas.List.Elements.{All-drop, All-head, All-tail}
-use Rattle.std.specs.Option.{option_map}
-use Rattle.c11_macros.specs.Call.{Role, opening, closing, comma, other, role_of}
-use Rattle.sc_base.specs.declared.id.Cond.{Cond}
-use Rattle.sc_base.specs.declared.token.Token.{Token}
-use Rattle.sc_base.specs.Seen.{text_at}
-use Rattle.sc_expand.specs.Alike.{IsSameCall}
-use Rattle.sc_expand.specs.Having.{tokens_in}
-use Rattle.sc_guarded.specs.Items.{items_at}
-use Rattle.sc_hoist.specs.Alike.{AreAlike, IsAlike}
-use Rattle.sc_hoist.specs.Calls.{bare, call_end, call_end_at, call_length, call_places, closed, closing_at, closing_step, opened_end, opened_length, spelled_at, still}
-use Rattle.sc_hoist.specs.Places.{places_from}
-use Rattle.sc_model.specs.Bytes.{same_bytes}
-use Rattle.sc_model.specs.Sets.{Sets}
-use Rattle.sc_subst.specs.declared.hidden.Hidden.{Hidden}
 use Rattle.sc_expand.proofs.AlikeFilling.{items_at-alike}
+use Rattle.sc_expand.proofs.Facts.{All-drop, All-head, All-tail, length-map, take-append-le}
+use Rattle.sc_expand.proofs.Terms.{AreAlike, Cond, Hidden, IsAlike, IsSameCall, Role, Sets, Token, bare, call_end, call_end_at, call_length, call_places, closed, closing, closing_at, closing_step, comma, items_at, opened_end, opened_length, opening, option_map, other, places_from, role_of, same_bytes, spelled_at, still, text_at, tokens_in}
 
 -- ---- spellings that begin alike
 

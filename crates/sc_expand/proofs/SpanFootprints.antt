@@ -1,23 +1,10 @@
 -- Configurations that do not expand an item alike have different footprints of it.
 use Rattle.std.proofs.Common.{◌≡◌, ℕ, zero, suc, ◌+◌, ◌-◌, ◌≤◌, Bool, true, false, List, [], ◌∷◌, drop, length, take, refl, sym, ap, ◌∙◌, arith, if◌then◌else◌}
-use Rattle.std.proofs.lemmas.List.{length-map, length-take-le}
-use Rattle.std.proofs.lemmas.List.Elements.{All-cons, All-nil}
-use Rattle.c11_macros.specs.Expansion.{IsWithin, case_of, stays}
-use Rattle.c11_macros.specs.Footprint.{footprint}
-use Rattle.c11_macros.specs.Hidden.{Hidden, Provenance}
-use Rattle.c11_macros.specs.Macros.{Macros}
-use Rattle.sc_base.specs.declared.id.Cond.{Cond}
-use Rattle.sc_base.specs.declared.stop.Stop.{Stop}
-use Rattle.sc_base.specs.declared.stop.Stop.TheVariants.{BranchesFull, ReadFault, OutOfMemory}
 use Rattle.sc_expand.proofs.Behind.{Fall, behind-falls, length-behind}
+use Rattle.sc_expand.proofs.Facts.{All-cons, All-nil, length-map, length-take-le}
 use Rattle.sc_expand.proofs.FootprintLemmas.{pairs-both, same-use}
 use Rattle.sc_expand.proofs.RunFootprints.{Prints, passes-arrives, run-prints}
-use Rattle.sc_expand.specs.Footprints.{HasFootprints, IsSameUse, StopsAtName, UsesAt}
-use Rattle.sc_expand.specs.Having.{behind_at}
-use Rattle.sc_expand.specs.Spans.{ComesAt, HasSpansApart, IsSpan, StopsApart, behind}
-use Rattle.sc_guarded.specs.Items.{items_at}
-use Rattle.sc_hoist.specs.Alike.{AreAlike, IsAlike}
-use Rattle.sc_model.specs.Sets.{Sets}
+use Rattle.sc_expand.proofs.Terms.{AreAlike, BranchesFull, ComesAt, Cond, HasFootprints, HasSpansApart, HiddenToken as Hidden, IsAlike, IsSameUse, IsSpan, IsWithin, Macros, OutOfMemory, Provenance, ReadFault, Sets, Stop, StopsApart, StopsAtName, UsesAt, behind, behind_at, case_of, footprint, items_at, stays}
 
 -- so many first items that both have the same of, and each has so many of them
 record SameFirst {T : Type 0} (s : Sets) (c d : List ℕ) (list : List (Cond × T)) (k : ℕ) : Type 0 where

@@ -1,15 +1,8 @@
 -- Why the calls of a name give no answer, said of more configurations or of earlier stores.
 use Rattle.std.proofs.Common.{◌≡◌, ℕ, ◌<◌, List, map, length, get_or, sym, arith, ◌∙◌}
-use Rattle.sc_base.specs.declared.id.Cond.{Cond}
-use Rattle.sc_base.specs.declared.stop.Stop.{Stop}
-use Rattle.sc_base.specs.declared.stop.Stop.TheVariants.{BranchesFull, ReadFault, OutOfMemory}
 use Rattle.sc_expand.proofs.AlikeGathering.{each-end, each-places}
-use Rattle.sc_expand.specs.Having.{has_each}
-use Rattle.sc_expand.specs.Seen.{AreHeld, Grows, Stores}
-use Rattle.sc_expand.specs.CallStops.{StopsAt}
-use Rattle.sc_model.proofs.SetLemmas.{IsConfig-kept}
-use Rattle.sc_model.specs.Sets.{Sets, IsConfig}
-use Rattle.sc_subst.specs.declared.hidden.Hidden.{Hidden}
+use Rattle.sc_expand.proofs.Facts.{IsConfig-kept}
+use Rattle.sc_expand.proofs.Terms.{AreHeld, BranchesFull, Cond, Grows, Hidden, IsConfig, OutOfMemory, ReadFault, Sets, Stop, StopsAt, Stores, has_each}
 
 -- of more configurations
 pub stops-weaker : (s : Sets) (names : List (List ℕ)) (P Q : List ℕ → Type 0) (list : List (Cond × Hidden)) (limit : ℕ) (stop : Stop) → ((c : List ℕ) → IsConfig s.arities c → P c → Q c)

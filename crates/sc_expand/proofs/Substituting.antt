@@ -1,19 +1,10 @@
 -- What holds of all tokens that a substitution makes, where it holds of the tokens of the list and
 -- of the arguments, and lasts as tokens are made into string literals, pasted and hidden.
 use Rattle.std.proofs.Common.{ℕ, zero, suc, ◌&&◌, ◌||◌, not, Bool, true, false, List, [], ◌∷◌, ◌++◌, IfOk, get_or, Option, Some, None, Result, Ok, Err, if◌then◌else◌, codes, cond}
-use Rattle.std.specs.List.{AllByRecursion as Every}
-use Rattle.c11_macros.proofs.OneLineLists.{both, every-map}
-use Rattle.c11_macros.specs.Hidden.{Failure, Hidden, HideSet, Provenance, failure_at, meet, no_names}
-use Rattle.c11_macros.specs.Macros.{Form}
-use Rattle.c11_macros.specs.Results.{result_and_then, result_map}
 use Rattle.c11_macros.specs.Substitution as substitution
 use Rattle.c11_macros.specs.Substitution.{Before, Joint, Part, Piece, Slot, after_hash, after_paste, all_glued, apart, argument, argument_pieces, begins_paste, begins_with_parameter, behind_comma, behind_paste, comma_of, deleting_rest, filled, filled_by, first_part, for_parameter, for_paste, glued, hidden_by, hiding, is_after_paste, is_deleted, is_hash, is_paste, is_rest_next, is_text_kind, joined, joint_of, kept, list_slots, listed, neither, operand_part, operator, or_placemarker, parameter_of, parts, parts_of, pasted_as, piece, pieces_of, placemarker, put_together, slot_of, slots, spellings, stringized, substituted, tokens_of, with_commas, with_space}
-use Rattle.c11_tokens.specs.Relex.{relexed}
-use Rattle.sc_model.specs.declared.cause.Cause.TheVariants.{BadStringize}
-use Rattle.sc_model.specs.declared.kind.Kind.{Kind}
-use Rattle.sc_model.specs.declared.kind.Kind.TheVariants.{Text}
-use Rattle.sc_model.specs.Bytes.{same_bytes}
-use Rattle.sc_model.specs.Token.{Item}
+use Rattle.sc_expand.proofs.Facts.{both, every-map}
+use Rattle.sc_expand.proofs.Terms.{AllByRecursion as Every, BadStringize, Failure, Form, HiddenToken as Hidden, HideSet, Item, Kind, Provenance, Text, failure_at, meet, no_names, relexed, result_and_then, result_map, same_bytes}
 
 -- ---- steps of which each may fail, lists
 

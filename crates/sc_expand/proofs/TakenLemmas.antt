@@ -1,16 +1,10 @@
 -- What a configuration still has of a list, and what was made of its first token.
 use Rattle.std.proofs.Common.{◌≡◌, ◌⊎◌, ◌∙◌, ℕ, zero, suc, ◌+◌, ◌≤◌, ◌++◌, Bool, true, false, true≢false, List, [], ◌∷◌, All, drop, take, length, length-append, inl, inr, refl, sym, ap, subst, arith, if◌then◌else◌}
-use Rattle.std.proofs.lemmas.List.{drop-drop, length-drop}
-use Rattle.std.proofs.lemmas.List.Elements.{All-cons, All-head, All-nil, All-tail}
-use Rattle.sc_base.specs.declared.id.Cond.{Cond}
 use Rattle.sc_expand.proofs.Behind.{Fall, behind-falls, length-behind}
+use Rattle.sc_expand.proofs.Facts.{All-cons, All-head, All-nil, All-tail, drop-drop, length-drop}
 use Rattle.sc_expand.proofs.LastLemmas.{behind-drop, behind-each, first-long, last-each, last-earlier, last-later}
 use Rattle.sc_expand.proofs.PhaseLists.{first-had}
-use Rattle.sc_expand.specs.Having.{HasLast, behind_at, has_each}
-use Rattle.sc_expand.specs.Taking.{HasTaken, has_first}
-use Rattle.sc_guarded.specs.Items.{items_at}
-use Rattle.sc_model.specs.Sets.{Sets}
-use Rattle.sc_subst.specs.declared.hidden.Hidden.{Hidden}
+use Rattle.sc_expand.proofs.Terms.{Cond, HasLast, HasTaken, Hidden, Sets, behind_at, has_each, has_first, items_at}
 
 -- ---- a part is taken
 

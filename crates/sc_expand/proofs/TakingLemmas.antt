@@ -1,48 +1,17 @@
 -- Taking the first token of a list: what the parts of it come to together.
-use Rattle.std.proofs.Common.{◌≡◌, ℕ, ◌<◌, get_or, zero, suc, ◌==◌, ◌||◌, ◌&&◌, not, Bool, true, false, List, [], ◌∷◌, All, map, length, refl, sym, ap, subst, ◌∙◌, arith, if◌then◌else◌}
-use Rattle.std.proofs.Math.Bool.{or-false, and-false, and-true}
-use Rattle.std.specs.List.{list_any}
-use Rattle.std.proofs.lemmas.Bool.{true≢false}
-use Rattle.c11_macros.specs.Hidden as model
-use Rattle.c11_macros.specs.Hidden.{Failure, HideSet, Provenance, with_name}
-use Rattle.c11_macros.specs.Macros.{Form}
-use Rattle.sc_model.specs.Token.{Item}
-use Rattle.c11_macros.specs.Substitution.{substituted}
-use Rattle.sc_base.specs.declared.place.Place.{Place}
-use Rattle.sc_subst.specs.declared.hidden.Hidden.{Hidden}
-use Rattle.std.specs.Prelude.{Result}
-use Rattle.std.proofs.lemmas.List.Elements.{All-nil, All-cons, All-head, All-tail}
-use Rattle.sc_base.specs.declared.id.Cond.{Cond}
-use Rattle.sc_expand.proofs.SeenLemmas.{AreHeld-nil}
-use Rattle.sc_expand.specs.Seen as seen
-use Rattle.sc_expand.specs.Seen.{IsHeldToken, Stores, seen_at}
-use Rattle.sc_guarded.proofs.ItemLemmas.{items_at-under}
-use Rattle.sc_model.specs.Sets.{IsCond}
+use Rattle.std.proofs.Common.{◌≡◌, ℕ, ◌<◌, get_or, zero, suc, ◌==◌, ◌||◌, ◌&&◌, not, Bool, true, false, List, [], ◌∷◌, All, map, length, refl, sym, ap, subst, ◌∙◌, arith, if◌then◌else◌, Result}
+use Rattle.std.proofs.lemmas.Bool.Decides.{nat_tests}
 use Rattle.c11_macros.specs.Macros as macros
-use Rattle.c11_macros.specs.Macros.{list_at}
-use Rattle.sc_base.proofs.Growth.{Extends-refl}
-use Rattle.sc_macro.specs.declared.definition.Definition.{Definition}
-use Rattle.sc_macro.specs.declared.definition.Item as declared_item
-use Rattle.sc_macro.specs.Seen.{IsHeldDefinition, IsHeldItem, seen_form, seen_item, seen_replacement}
-use Rattle.sc_model.specs.Growth.{Extends}
-use Rattle.sc_model.specs.Token as Position
-use Rattle.sc_subst.proofs.Later.{hide_later, text_later}
-use Rattle.sc_subst.proofs.Turns.{items_later}
-use Rattle.sc_subst.specs.declared.hidden.Hide.{Hide}
-use Rattle.sc_table.proofs.Growth.{seen_definition-Extends}
-use Rattle.sc_subst.specs.Seen.{IsHeldHidden, IsHeldSet, hide_at, seen_hidden}
-use Rattle.sc_base.specs.declared.id.Name.{Name}
+use Rattle.sc_expand.proofs.Facts.{All-cons, All-head, All-nil, All-tail, Extends-refl, and-false, and-true, eqb-true, held_tail, held_union, hide_later, items_at-under, items_later, or-false, same_bytes-refl, same_bytes-true, seen_definition-Extends, text_later, true≢false}
+use Rattle.sc_expand.proofs.SeenLemmas.{AreHeld-nil}
+use Rattle.sc_expand.proofs.Terms.{Cond, Extends, Failure, Form, Hidden, HiddenToken, Hide, HideSet, IsCond, IsHeldDefinition, IsHeldHidden, IsHeldItem, IsHeldSet, IsHeldToken, IsOneToOne, Item, Name, Place, Provenance, Stores, hide_at, list_any, list_at, same_bytes, seen_at, seen_form, seen_hidden, seen_item, seen_replacement, substituted, text_at, texts_in, with_name}
+use Rattle.sc_expand.specs.Seen as seen
 use Rattle.sc_macro.proofs.Texts.{same_id}
 use Rattle.sc_macro.specs.Seen.{AreHeld, text_of}
-use Rattle.sc_model.proofs.ByteLemmas.{same_bytes-refl, same_bytes-true}
-use Rattle.sc_model.specs.Bytes.{same_bytes}
-use Rattle.sc_model.specs.Growth.{IsOneToOne}
-use Rattle.sc_subst.proofs.SeenLaws.{held_tail, held_union}
+use Rattle.sc_macro.specs.declared.definition.Definition.{Definition}
+use Rattle.sc_macro.specs.declared.definition.Item as declared_item
+use Rattle.sc_model.specs.Token as Position
 use Rattle.sc_subst.specs.Rising.{has_name}
-use Rattle.sc_subst.specs.Seen.{texts_in}
-use Rattle.std.proofs.lemmas.Bool.{eqb-true}
-use Rattle.sc_base.specs.Seen.{text_at}
-use Rattle.std.proofs.lemmas.Bool.Decides.{nat_tests}
 
 -- names are one to one, so a set has a name where it has its text
 pub same_test : (names : List (List ℕ)) (set : List Name) (name : Name) → IsOneToOne names → AreHeld names set → name.0 < length names
@@ -70,7 +39,7 @@ module _ (names : List (List ℕ)) (one made : List Name) (name : Name) (exact :
       by (suc k) d h = absurd (omega (arith, h))
 
 -- the same question of tables that grew
-pub same-result : {P : Type 0} (provenance : Provenance P) (head : model.Hidden P) {f g : Form} {is js : List Item} {m n : HideSet} (r : Result (List (model.Hidden P)) (Failure P))
+pub same-result : {P : Type 0} (provenance : Provenance P) (head : HiddenToken P) {f g : Form} {is js : List Item} {m n : HideSet} (r : Result (List (HiddenToken P)) (Failure P))
     → f ≡ g → is ≡ js → m ≡ n → substituted provenance f is head [] [] m ≡ r → substituted provenance g js head [] [] n ≡ r
 same-result provenance head r f i h given = sym (λ k. substituted provenance (f k) (i k) head [] [] (h k)) ∙ given
 

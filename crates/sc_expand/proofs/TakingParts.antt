@@ -1,38 +1,15 @@
 -- One part more of what a look-up gives is taken.
-use Rattle.std.proofs.Common.{◌≡◌, ◌∙◌, ◌∷◌, ◌++◌, ℕ, zero, suc, ◌+◌, ◌<◌, ◌≤◌, Bool, true, false, List, [], Option, Some, None, ap, refl, sym, subst, length, take, get_or, map, append-nil, arith, if◌then◌else◌}
-use Rattle.std.proofs.Common.{Global}
-use Rattle.std.proofs.lemmas.List.{take_more}
-use Rattle.std.proofs.lemmas.Option.{slice_get-map}
-use Rattle.std.specs.Option.{option_map}
-use Rattle.std.specs.Prelude.{IfSome, slice_get}
-use Rattle.std.specs.declared.rc.Rc.{Rc}
-use Rattle.c11_macros.specs.Hidden.{Hidden}
-use Rattle.c11_macros.specs.Macros.{Macros}
+use Rattle.std.proofs.Common.{Global, ◌≡◌, ◌∙◌, ◌∷◌, ◌++◌, ℕ, zero, suc, ◌+◌, ◌<◌, ◌≤◌, Bool, true, false, List, [], Option, Some, None, ap, refl, sym, subst, length, take, get_or, map, append-nil, arith, if◌then◌else◌, IfSome, slice_get}
 use Rattle.c11_macros.specs.Macros as model
-use Rattle.sc_base.specs.declared.id.Cond.{Cond}
-use Rattle.sc_base.specs.declared.place.Place.{Place}
 use Rattle.sc_expand.proofs.AlikeTaking.{part-alike, part-each}
+use Rattle.sc_expand.proofs.Facts.{IsConfig-Keeps, items_at-append, seen_definition-Extends, slice_get-map, take_more}
 use Rattle.sc_expand.proofs.KeepingLists.{lists-same, lists-then}
 use Rattle.sc_expand.proofs.SeenLemmas.{at-Grows, seen_hidden-Grows}
 use Rattle.sc_expand.proofs.TakenLemmas.{taken-each, taken-earlier, taken-later}
 use Rattle.sc_expand.proofs.TakingSteps.{has_first-Keeps, none-before, same-step}
-use Rattle.sc_expand.specs.Alike.{IsFunctionLike}
-use Rattle.sc_expand.specs.Machine.{IsHeldExpansion, at}
-use Rattle.sc_expand.specs.Seen.{AreHeld, Grows, IsHeldToken, Stores, provenance_of, seen_at}
-use Rattle.sc_expand.specs.Taking.{AreTaken, Comes, HasTaken, IsHeldTaken, IsTaken, Step, TakesPart, step_at, untaken}
-use Rattle.sc_expand.specs.Turn.{At}
-use Rattle.sc_expand.specs.declared.expansion.Expansion.{Expansion}
-use Rattle.sc_expand.specs.declared.taking.Taken.{Taken}
-use Rattle.sc_guarded.proofs.ItemLemmas.{items_at-append}
-use Rattle.sc_guarded.specs.Items.{items_at}
+use Rattle.sc_expand.proofs.Terms.{AreHeld, AreTaken, At, Comes, Cond, Denotes, Expansion, Extends, Grows, HasTaken, HiddenToken as Hidden, IsCond, IsConfig, IsFunctionLike, IsHeldDefinition, IsHeldExpansion, IsHeldTaken, IsHeldToken, IsTaken, Macros, Place, Rc, Sets, Step, Stores, Taken, TakesPart, at, items_at, option_map, provenance_of, seen_at, seen_definition, seen_hidden, step_at, text_of, untaken}
 use Rattle.sc_macro.specs.declared.definition.Definition.{Definition}
-use Rattle.sc_macro.specs.Seen.{IsHeldDefinition, seen_definition, text_of}
-use Rattle.sc_model.proofs.SetLemmas.{IsConfig-Keeps}
-use Rattle.sc_model.specs.Growth.{Extends}
-use Rattle.sc_model.specs.Sets.{Denotes, IsCond, IsConfig, Sets}
 use Rattle.sc_subst.specs.declared.hidden.Hidden as declared
-use Rattle.sc_subst.specs.Seen.{seen_hidden}
-use Rattle.sc_table.proofs.Growth.{seen_definition-Extends}
 
 abbrev pub seen_by : List (List ℕ) → Option (Rc Definition Global) → Option model.Definition
 seen_by names o = option_map (λ shared. seen_definition names shared.value) o

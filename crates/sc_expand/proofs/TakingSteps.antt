@@ -1,30 +1,15 @@
 -- What taking a name comes to, by what its parts did.
-use Rattle.std.proofs.Common.{◌≡◌, ◌∙◌, ◌∷◌, ◌++◌, ◌&&◌, ℕ, Bool, true, false, List, [], All, None, Some, Result, Ok, Err, ap, refl, sym, subst, length, take, get_or, zero, suc, ◌<◌, true≢false, map, append-nil, ◌≤◌, arith, if◌then◌else◌}
-use Rattle.std.proofs.Math.Bool.{and-false}
-use Rattle.std.specs.Prelude.{OnOk}
-use Rattle.std.proofs.lemmas.List.Elements.{All-head}
-use Rattle.c11_macros.specs.Defines.{is_function_like}
-use Rattle.c11_macros.proofs.LongerLists.{last-stays}
+use Rattle.std.proofs.Common.{◌≡◌, ◌∙◌, ◌∷◌, ◌++◌, ◌&&◌, ℕ, Bool, true, false, List, [], All, None, Some, Result, Ok, Err, ap, refl, sym, subst, length, take, get_or, zero, suc, ◌<◌, true≢false, map, append-nil, ◌≤◌, arith, if◌then◌else◌, OnOk}
 use Rattle.c11_macros.specs.Expansion as expansion
-use Rattle.c11_macros.specs.Expansion.{Case, called, case_of, is_looked_up, misfit, object_result, replaced, unclosed}
-use Rattle.c11_macros.specs.Hidden.{Failure, Hidden, Provenance}
-use Rattle.c11_macros.specs.Macros.{Definition, Form, Macros, function_like, object_like}
-use Rattle.sc_base.specs.declared.id.Cond.{Cond}
-use Rattle.sc_base.specs.declared.place.Place.{Place}
+use Rattle.sc_expand.proofs.Facts.{All-head, and-false, last-stays}
 use Rattle.sc_expand.proofs.PlainCases.{case-object}
+use Rattle.sc_expand.proofs.Terms.{Case, Comes, Cond, Definition, Failure, Form, Gathers, HiddenToken as Hidden, IsCond, IsConfig, Keeps, Macros, Place, Provenance, Replaces, Sets, Step, Stores, View, called, case_of, function_like, has_first, is_function_like, is_function_named, is_last_name, is_looked_up, items_at, misfit, object_like, object_result, replaced, seen_at, seen_hidden, state_by, state_of, unclosed}
 use Rattle.sc_expand.specs.Gather as gathers
-use Rattle.sc_expand.specs.Gather.{Gathers}
-use Rattle.c11_macros.specs.Runs.{is_function_named, is_last_name}
 use Rattle.sc_expand.specs.Open.{Waits, alone, open_call}
 use Rattle.sc_expand.specs.Plain.{Moves, State, Waiting, bad_object, gather, gathered, object, scanning, stay}
-use Rattle.sc_expand.specs.Seen.{Stores, View, seen_at, state_by, state_of}
-use Rattle.sc_guarded.specs.Items.{items_at}
-use Rattle.sc_subst.specs.Seen.{seen_hidden}
 use Rattle.sc_expand.specs.Taking as taking
-use Rattle.sc_expand.specs.Taking.{Comes, Replaces, Step, has_first}
 use Rattle.sc_expand.specs.Turn as turn
 use Rattle.sc_expand.specs.Turn.{At, EndsBy, IsDecided, Turn, ended, fails, moved, refused, waits}
-use Rattle.sc_model.specs.Sets.{Sets, IsCond, IsConfig, Keeps}
 use Rattle.sc_subst.specs.declared.hidden.Hidden as declared
 
 pub on-ok : {A E P Q : Type 0} (r : Result A E) → (P → Q) → OnOk r P → OnOk r Q

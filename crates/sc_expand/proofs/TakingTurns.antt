@@ -1,37 +1,17 @@
 -- A turn that takes the first token of a list, by what taking the token comes to.
-use Rattle.std.proofs.Common.{◌≡◌, ◌∙◌, ◌∷◌, ◌++◌, ◌&&◌, ℕ, Bool, true, false, List, [], All, Some, ap, refl, sym, subst, length, drop, map, append-nil, arith, true≢false, if◌then◌else◌}
-use Rattle.std.proofs.lemmas.Bool.{and_parts, and_right}
-use Rattle.std.proofs.lemmas.List.{length-map}
-use Rattle.std.proofs.lemmas.List.Elements.{All-drop, All-head}
-use Rattle.std.specs.Prelude.{slice_get}
-use Rattle.c11_macros.specs.Hidden.{Hidden, Provenance}
-use Rattle.c11_macros.specs.Macros.{Macros}
-use Rattle.sc_base.proofs.Growth.{Extends-refl}
-use Rattle.sc_base.specs.declared.id.Cond.{Cond}
-use Rattle.sc_base.specs.declared.place.Place.{Place}
+use Rattle.std.proofs.Common.{◌≡◌, ◌∙◌, ◌∷◌, ◌++◌, ◌&&◌, ℕ, Bool, true, false, List, [], All, Some, ap, refl, sym, subst, length, drop, map, append-nil, arith, true≢false, if◌then◌else◌, slice_get}
+use Rattle.sc_expand.proofs.Facts.{All-drop, All-head, Denotes-self, Extends-refl, IsConfig-Keeps, IsConfig-kept, and_parts, and_right, length-map}
 use Rattle.sc_expand.proofs.LastLemmas.{last-earlier}
 use Rattle.sc_expand.proofs.PuttingOut.{pushed-held, pushed-seen}
 use Rattle.sc_expand.proofs.Rests.{first-is}
 use Rattle.sc_expand.proofs.SeenLemmas.{AreHeld-append, at-Grows, macros_at-Grows, seen_at-Grows, seen_at-append, seen_hidden-Grows, token-Grows}
-use Rattle.sc_expand.proofs.TakingSteps.{Ends, comes-turn, comes-waits, has_first-Keeps, same-step, seen-first}
 use Rattle.sc_expand.proofs.TakenLemmas.{first-still}
-use Rattle.sc_expand.proofs.WorkListLemmas.{has_each-Keeps}
-use Rattle.sc_expand.specs.Machine.{IsHeldExpansion, at, ends_at}
+use Rattle.sc_expand.proofs.TakingSteps.{Ends, comes-turn, comes-waits, has_first-Keeps, same-step, seen-first}
+use Rattle.sc_expand.proofs.Terms.{AreHeld, Comes, Cond, Denotes, Expansion, Grows, HasPutOut, HiddenToken as Hidden, IsApart, IsBegun, IsCond, IsConfig, IsHeldCall, IsHeldEnclosing, IsHeldExpansion, IsHeldRefusals, IsHeldTaken, IsHeldToken, IsTable, Keeps, MacroTable, Macros, Place, Provenance, Sets, Step, Stores, Taken, Takes, View, at, calls_at, ends_at, has_first, items_at, macros_at, provenance_of, seen_at, seen_hidden, step_at, stores, text_of, untaken}
 use Rattle.sc_expand.proofs.WaitingLemmas.{kept-held}
-use Rattle.sc_expand.specs.Running.{IsApart}
-use Rattle.sc_expand.specs.Seen.{AreHeld, Grows, IsHeldCall, IsHeldEnclosing, IsHeldRefusals, IsHeldToken, Stores, View, calls_at, provenance_of, seen_at, stores}
-use Rattle.sc_expand.specs.Taking.{Comes, HasPutOut, IsBegun, IsHeldTaken, Step, Takes, has_first, step_at, untaken}
+use Rattle.sc_expand.proofs.WorkListLemmas.{has_each-Keeps}
 use Rattle.sc_expand.specs.Turn.{At, Turn, over, passed}
-use Rattle.sc_expand.specs.declared.expansion.Expansion.{Expansion}
-use Rattle.sc_expand.specs.declared.taking.Taken.{Taken}
-use Rattle.sc_guarded.specs.Items.{items_at}
-use Rattle.sc_macro.specs.Seen.{text_of}
-use Rattle.sc_model.proofs.SetLemmas.{Denotes-self, IsConfig-Keeps, IsConfig-kept}
-use Rattle.sc_model.specs.Sets.{Denotes, IsCond, IsConfig, Keeps, Sets}
 use Rattle.sc_subst.specs.declared.hidden.Hidden as declared
-use Rattle.sc_subst.specs.Seen.{seen_hidden}
-use Rattle.sc_table.specs.declared.table.MacroTable.{MacroTable}
-use Rattle.sc_table.specs.Table.{IsTable, macros_at}
 
 -- ---- the first item of a list
 

@@ -1,31 +1,12 @@
 -- What a configuration's list expands to, told of the tokens of a text.
 use Rattle.std.proofs.Common.{◌≡◌, ℕ, List, [], ◌∷◌, map, Result, Ok, Err, refl, sym, ap, subst, ◌∙◌}
-use Rattle.c11_macros.specs.Expansion.{Expands}
-use Rattle.c11_macros.specs.Hidden as model
-use Rattle.c11_macros.specs.Hidden.{Failure, no_names}
-use Rattle.c11_macros.specs.Macros.{Macros}
-use Rattle.c11_macros.specs.Text.{TextExpands, fault_of, place_alone, text_of_answer, token_of, unhidden}
-use Rattle.c11_macros.specs.Trace.{Agree, Trace}
 use Rattle.sc_base.specs.declared.fault.Fault as base_fault
-use Rattle.sc_base.specs.declared.id.Name.{Name}
-use Rattle.sc_base.specs.declared.place.Place.{Place}
 use Rattle.sc_base.specs.declared.token.Token as base_token
-use Rattle.sc_base.specs.Seen.{seen, seen_place}
 use Rattle.sc_expand.proofs.PlainPlaces.{expands-moved}
-use Rattle.sc_expand.specs.Alike.{DefineAlike, DefineTextAlike}
-use Rattle.sc_expand.specs.Answers.{IsExpanded}
-use Rattle.sc_expand.specs.Moved.{IsKept, moved, moved_answer, moved_failure}
-use Rattle.sc_expand.specs.Seen.{provenance_of, seen_failure}
-use Rattle.sc_guarded.specs.declared.expanded.Expanded.{Expanded}
-use Rattle.sc_guarded.specs.Items.{faults_at, items_at, seen_fault}
-use Rattle.sc_macro.specs.Seen.{text_of}
-use Rattle.sc_model.specs.Sets.{Sets}
-use Rattle.sc_subst.specs.declared.hidden.Hidden.{Hidden}
-use Rattle.sc_subst.specs.Hides.{set_at}
-use Rattle.sc_subst.specs.Seen.{seen_hidden, texts_in}
+use Rattle.sc_expand.proofs.Terms.{Agree, DefineAlike, DefineTextAlike, Expanded, Expands, Failure, Hidden, HiddenToken, IsExpanded, IsKept, Macros, Name, Place, Sets, TextExpands, Trace, fault_of, faults_at, items_at, moved, moved_answer, moved_failure, no_names, place_alone, provenance_of, seen, seen_failure, seen_fault, seen_hidden, seen_place, set_at, text_of, text_of_answer, texts_in, token_of, unhidden}
 
 -- a token of a list that is not expanded yet
-abbrev pub begun : List (List ℕ) → base_token.Token → model.Hidden Place
+abbrev pub begun : List (List ℕ) → base_token.Token → HiddenToken Place
 begun names t = record { kind = t.kind; spelling = text_of names t.spelling; space = t.space; place = t.place; hide = no_names }
 
 -- a token with the empty hide set
@@ -41,7 +22,7 @@ unhidden-begun names files [] = refl
 unhidden-begun names files (t ∷ ts) = ap (λ us. unhidden (seen names files t) ∷ us) (unhidden-begun names files ts)
 
 -- the expansion of the tokens of a text
-pub text-expands : (names files : List (List ℕ)) (macros : Macros) (tokens : List base_token.Token) (r : Result (List (model.Hidden Place)) (Failure Place))
+pub text-expands : (names files : List (List ℕ)) (macros : Macros) (tokens : List base_token.Token) (r : Result (List (HiddenToken Place)) (Failure Place))
     → Expands (provenance_of files) macros (map (begun names) tokens) r → TextExpands macros (map (seen names files) tokens) (text_of_answer (moved_answer (seen_place files) r))
 text-expands names files macros tokens r d = record {
   answer = moved_answer (seen_place files) r;

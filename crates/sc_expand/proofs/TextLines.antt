@@ -1,22 +1,10 @@
 -- What a text expands to stands on one line, where its tokens and the macros' lists do; and which
 -- macros' lists do.
 use Rattle.std.proofs.Common.{◌≡◌, ℕ, zero, suc, Bool, true, false, List, [], ◌∷◌, All, map, codes, decimal, Option, Some, None, Result, Ok, Err, refl, sym, subst, ◌∙◌, slice_get, if◌then◌else◌}
-use Rattle.std.proofs.lemmas.Bool.{true_from_ne_false, true≢false}
-use Rattle.std.proofs.lemmas.List.Elements.{All-from_recursion, All-head, All-map, All-tail, All-weaker, recursion_from_All}
-use Rattle.std.specs.List.{AllByRecursion as Every}
 use Rattle.std.specs.Map.{update}
-use Rattle.std.specs.Option.{IfSome, option_and_then, option_or}
-use Rattle.c11_macros.proofs.OneLineLists.{PlainDefinition, PlainItem, PlainToken, both}
-use Rattle.c11_macros.specs.Expansion.{Expands}
-use Rattle.c11_macros.specs.Hidden.{Failure, Hidden}
-use Rattle.c11_macros.specs.Macros.{Definition, Macros, definition_named, definition_of, escaped, initial_macros, number_item, predefined_macros, string_item, variable_definition}
-use Rattle.c11_macros.specs.Text.{TextExpands, place_alone, text_of_answer, token_of, unhidden}
-use Rattle.sc_base.specs.declared.id.Cond.{Cond}
+use Rattle.sc_expand.proofs.Facts.{All-from_recursion, All-head, All-map, All-tail, All-weaker, PlainDefinition, PlainItem, PlainToken, both, recursion_from_All, true_from_ne_false, true≢false}
 use Rattle.sc_expand.proofs.PlainLines.{decimal-plain, escaped-plain, quoted-plain, stays-on_one_line}
-use Rattle.sc_expand.specs.OneLine.{AreOneLine, IsOneLine}
-use Rattle.sc_guarded.specs.Items.{items_at}
-use Rattle.sc_model.specs.Bytes.{has_no_newline, same_bytes}
-use Rattle.sc_model.specs.Sets.{IsConfig, IsNever, Sets}
+use Rattle.sc_expand.proofs.Terms.{AllByRecursion as Every, AreOneLine, Cond, Definition, Expands, Failure, HiddenToken as Hidden, IfSome, IsConfig, IsNever, IsOneLine, Macros, Sets, TextExpands, definition_named, definition_of, escaped, has_no_newline, initial_macros, items_at, number_item, option_and_then, option_or, place_alone, predefined_macros, same_bytes, string_item, text_of_answer, token_of, unhidden, variable_definition}
 use Rattle.sc_model.specs.Space as space_model
 use Rattle.sc_model.specs.Space.{Space, Variable, VariableOption}
 use Rattle.sc_model.specs.Token.{Place, Token}

@@ -1,25 +1,12 @@
 -- A list that has settled is thin.
 use Rattle.std.proofs.Common.{◌≡◌, inl, inr, ℕ, zero, suc, ◌-◌, ◌<◌, ◌&&◌, Bool, true, false, true≢false, List, [], ◌∷◌, ◌++◌, append-nil, drop, length, map, Option, Some, None, slice_get, refl, sym, ap, subst, ◌∙◌, arith, if◌then◌else◌}
-use Rattle.std.proofs.lemmas.List.{map-append}
-use Rattle.std.proofs.lemmas.List.Elements.{All-head, All-nil, All-tail}
-use Rattle.c11_macros.specs.Defines.{is_function_like}
-use Rattle.c11_macros.specs.Expansion.{case_of, defined_case, form_case, is_looked_up, looked_up_case, stays}
-use Rattle.c11_macros.specs.Hidden.{Hidden, Provenance}
-use Rattle.c11_macros.specs.Macros.{Definition, Form, Macros, function_like, object_like}
 use Rattle.c11_macros.specs.Runs.{End, Runs, Uses, alone, bad_call, bad_count, bad_object, call, is_function_named, is_last_name, no_uses, object, open_call, stay, used_up}
-use Rattle.c11_macros.specs.Trace.{Agree, looked_up_at}
-use Rattle.sc_base.specs.declared.id.Cond.{Cond}
 use Rattle.sc_expand.proofs.Behind.{length-behind}
+use Rattle.sc_expand.proofs.Facts.{All-head, All-nil, All-tail, map-append, slice_get-front, slice_get_within}
 use Rattle.sc_expand.proofs.PhaseKeeps.{none-long, same-slice}
-use Rattle.sc_expand.specs.Having.{behind_at}
+use Rattle.sc_expand.proofs.Terms.{Agree, AreAlike, ComesAt, Cond, Definition, Form, HiddenToken as Hidden, InSegments, IsAlike, IsConfig, IsItself, IsSameName, IsSettling, IsSpan, Macros, Provenance, Sets, behind, behind_at, case_of, defined_case, form_case, function_like, is_function_like, is_looked_up, items_at, looked_up_at, looked_up_case, object_like, of_item, stays}
 use Rattle.sc_expand.specs.Spans as spans
-use Rattle.sc_expand.specs.Spans.{ComesAt, InSegments, IsItself, IsSameName, IsSettling, IsSpan, behind, of_item}
 use Rattle.sc_expand.specs.Thin.{InSpan, IsNth, IsThin, Stays}
-use Rattle.sc_guarded.specs.Items.{items_at}
-use Rattle.sc_hoist.specs.Alike.{AreAlike, IsAlike}
-use Rattle.std.proofs.lemmas.Option.{slice_get_within}
-use Rattle.sc_model.proofs.ListLemmas.{slice_get-front}
-use Rattle.sc_model.specs.Sets.{IsConfig, Sets}
 
 -- ---- the n-th elements of a list
 

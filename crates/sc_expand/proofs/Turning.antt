@@ -1,35 +1,21 @@
 -- A turn of the loop, by what it takes.
 use Rattle.std.proofs.Common.{◌≡◌, inl, inr, ℕ, suc, ◌≤◌, Bool, true, false, true≢false, List, [], ◌∷◌, ◌++◌, All, length, append-nil, Option, Some, None, option_to_list, slice_get, refl, sym, ap, subst, ◌∙◌, arith, if◌then◌else◌}
-use Rattle.std.proofs.lemmas.List.Elements.{All-head, All-pop}
-use Rattle.std.specs.Global.{Vec}
-use Rattle.c11_macros.specs.Macros.{Macros}
-use Rattle.sc_base.specs.declared.id.Cond.{Cond}
-use Rattle.sc_expand.proofs.WaitingLemmas.{rest-alike, same-left}
 use Rattle.sc_expand.proofs.AlikeFilling.{alike-leave}
+use Rattle.sc_expand.proofs.BottomLemmas.{bottom-held, bottom-less, bottom-same, more-none}
 use Rattle.sc_expand.proofs.Dropping.{IsNone}
+use Rattle.sc_expand.proofs.Facts.{All-head, All-pop, IsConfig-Keeps}
 use Rattle.sc_expand.proofs.MachineCalls.{calls_at-append, last-alone}
 use Rattle.sc_expand.proofs.MachineLeaves.{left-held, left-progress}
 use Rattle.sc_expand.proofs.MachineLemmas.{stands-cases, turn-progress}
-use Rattle.sc_expand.proofs.BottomLemmas.{bottom-held, bottom-less, bottom-same, more-none}
 use Rattle.sc_expand.proofs.Rests.{next-argument, next-call, put-less, put-same, some-same}
 use Rattle.sc_expand.proofs.SeenLemmas.{Grows-refl, seen_at-Grows}
+use Rattle.sc_expand.proofs.Terms.{AreAlike, AreHeld, Call, CallNextAlike, Cond, DefineNextAlike, Enclosing, Expansion, Frame, Grows, HasLast, HasMore, Hidden, IsAlikeCall, IsAlikeEnclosing, IsAlikeExpansion, IsAlikeFrame, IsConfig, IsExpansion, IsFirstIn, IsHeldCall, IsHeldEnclosing, IsHeldExpansion, IsHeldFrame, IsResumed, Macros, Others, Progress, Sets, Stands, Stores, TakesName, Vec, View, at, at_call, calls_at, no_others, others_at, provenance_of, rests, seen_at, state_in, view_at, waiting_at, with_call}
 use Rattle.sc_expand.proofs.UnchangedLemmas.{never-empty}
-use Rattle.sc_expand.specs.Alike.{CallNextAlike, DefineNextAlike, IsAlikeCall, IsAlikeEnclosing, IsAlikeExpansion, IsAlikeFrame, IsFirstIn, Others, TakesName, no_others, others_at}
-use Rattle.sc_expand.specs.declared.call.Call.{Call}
-use Rattle.sc_expand.specs.declared.expansion.Expansion.{Expansion}
-use Rattle.sc_expand.specs.declared.frame.Enclosing.{Enclosing}
-use Rattle.sc_expand.specs.declared.frame.Frame.{Frame}
-use Rattle.sc_expand.specs.Machine.{IsExpansion, IsHeldExpansion, IsResumed, Progress, Stands, at, at_call, rests, state_in, with_call}
-use Rattle.sc_expand.specs.Having.{HasLast, HasMore}
+use Rattle.sc_expand.proofs.WaitingLemmas.{rest-alike, same-left}
 use Rattle.sc_expand.specs.Running as running
 use Rattle.sc_expand.specs.Running.{GoesOn, IsAsLong, IsReady, IsTurned, KeepsLeft, KeepsNext, Pushes, PutsOut, Rest, TakesFirst, bottom, bottom_by, last_of, next_by, next_of, put_by, put_out}
-use Rattle.sc_expand.specs.Seen.{AreHeld, Grows, IsHeldCall, IsHeldEnclosing, IsHeldFrame, Stores, View, calls_at, provenance_of, seen_at, view_at, waiting_at}
 use Rattle.sc_expand.specs.Unchanged as unchanged
 use Rattle.sc_expand.specs.Unchanged.{IsPushed, IsUncalled, LooksUpNone, Passes}
-use Rattle.sc_hoist.specs.Alike.{AreAlike}
-use Rattle.sc_model.proofs.SetLemmas.{IsConfig-Keeps}
-use Rattle.sc_model.specs.Sets.{IsConfig, Sets}
-use Rattle.sc_subst.specs.declared.hidden.Hidden.{Hidden}
 
 -- the calls on top are these
 abbrev pub with_calls : Expansion → Vec Call → Expansion

@@ -1,25 +1,12 @@
 -- A list in which no name is defined, before the first turn and after the last.
 use Rattle.std.proofs.Common.{◌≡◌, ℕ, ◌++◌, ◌&&◌, not, true, false, List, [], ◌∷◌, All, append-nil, map, take, refl, sym, ap, subst, ◌∙◌, if◌then◌else◌}
-use Rattle.std.proofs.lemmas.List.Elements.{All-cons, All-head, All-nil}
-use Rattle.c11_macros.specs.Macros.{Macros}
-use Rattle.sc_base.specs.declared.id.Cond.{Cond}
-use Rattle.sc_base.specs.declared.token.Token.{Token}
+use Rattle.sc_expand.proofs.AlikeLemmas.{lacks-first, none-told}
 use Rattle.sc_expand.proofs.Ending.{bared}
+use Rattle.sc_expand.proofs.Facts.{All-cons, All-head, All-nil, IsConfig-kept}
+use Rattle.sc_expand.proofs.TakingParts.{none-found}
+use Rattle.sc_expand.proofs.Terms.{Cond, DefinesNone, Expanded, Expansion, Fault, Hidden, IsClosed, IsCond, IsConfig, IsNever, IsRestricted, IsUndefined, Keeps, LooksUpNone, Macros, Sets, Settled, Token, failures_at, faults_at, is_several, items_at, seen_failure, unclosed_at}
 use Rattle.sc_expand.proofs.UnchangedLemmas.{restricted-bared, restricted-Keeps}
 use Rattle.sc_expand.proofs.UnchangedTaking.{first-here, others-here}
-use Rattle.sc_expand.specs.declared.expansion.Expansion.{Expansion}
-use Rattle.sc_expand.specs.declared.settling.Settled.{Settled}
-use Rattle.sc_base.specs.declared.fault.Fault.{Fault}
-use Rattle.sc_expand.specs.Closing.{IsClosed, is_several, unclosed_at}
-use Rattle.sc_expand.specs.Seen.{failures_at, seen_failure}
-use Rattle.sc_model.proofs.SetLemmas.{IsConfig-kept}
-use Rattle.sc_expand.specs.Unchanged.{DefinesNone, IsRestricted, IsUndefined, LooksUpNone}
-use Rattle.sc_guarded.specs.declared.expanded.Expanded.{Expanded}
-use Rattle.sc_guarded.specs.Items.{faults_at, items_at}
-use Rattle.sc_model.specs.Sets.{Sets, IsCond, IsConfig, IsNever, Keeps}
-use Rattle.sc_subst.specs.declared.hidden.Hidden.{Hidden}
-use Rattle.sc_expand.proofs.AlikeLemmas.{lacks-first, none-told}
-use Rattle.sc_expand.proofs.TakingParts.{none-found}
 
 looks-in : (s : Sets) (names : List (List ℕ)) (macros : List ℕ → Macros) (live : ℕ) (xs : List (Cond × Hidden))
     → ((c : List ℕ) → IsConfig s.arities c → s.has live c ≡ true → All (IsUndefined names (macros c)) (items_at s (map bared xs) c))

@@ -1,20 +1,10 @@
 -- What is left of a list in which no name is defined, turn by turn.
 use Rattle.std.proofs.Common.{◌≡◌, ℕ, ◌&&◌, Bool, true, false, List, [], ◌∷◌, ◌++◌, All, get_or, map, append_assoc, append-nil, refl, sym, ap, subst, ◌∙◌}
-use Rattle.std.proofs.lemmas.List.Elements.{All-append, All-cons, All-head, All-nil, All-tail}
-use Rattle.c11_macros.specs.Macros.{Macros}
-use Rattle.sc_base.specs.declared.id.Cond.{Cond}
-use Rattle.sc_base.specs.Seen.{text_at}
 use Rattle.sc_expand.proofs.Ending.{bared}
-use Rattle.sc_expand.specs.declared.expansion.Expansion.{Expansion}
-use Rattle.sc_expand.specs.Machine.{IsHeldExpansion}
-use Rattle.sc_expand.specs.Seen.{Grows, IsHeldToken, Stores}
+use Rattle.sc_expand.proofs.Facts.{All-append, All-cons, All-head, All-nil, All-tail, IsConfig-Keeps, IsConfig-kept, and_parts, false_from_ne_true, text_later}
+use Rattle.sc_expand.proofs.Terms.{Cond, Expansion, Grows, Hidden, IsCond, IsConfig, IsHeldExpansion, IsHeldToken, Keeps, Macros, Sets, Stores, text_at}
 use Rattle.sc_expand.specs.Unchanged as unchanged
 use Rattle.sc_expand.specs.Unchanged.{DefinesNone, Drops, IsPushed, IsRestricted, IsUncalled, IsUndefined, LooksUpNone, Passes, empty}
-use Rattle.sc_model.proofs.SetLemmas.{IsConfig-Keeps, IsConfig-kept}
-use Rattle.sc_model.specs.Sets.{Sets, IsCond, IsConfig, Keeps}
-use Rattle.sc_subst.proofs.Later.{text_later}
-use Rattle.sc_subst.specs.declared.hidden.Hidden.{Hidden}
-use Rattle.std.proofs.lemmas.Bool.{and_parts, false_from_ne_true}
 
 abbrev Item : Type 0
 Item = Cond × Hidden

@@ -1,40 +1,19 @@
 -- A token that is no macro's name is taken: nothing but its place changes.
-use Rattle.std.proofs.Common.{◌≡◌, ℕ, ◌&&◌, not, Bool, true, false, true≢false, List, [], ◌∷◌, ◌++◌, All, drop, length, map, append-nil, Option, Some, None, Global, refl, sym, ap, subst, ◌∙◌, if◌then◌else◌}
-use Rattle.std.proofs.lemmas.Bool.{and_parts}
-use Rattle.std.proofs.lemmas.List.Elements.{All-cons, All-head, All-nil, All-tail}
-use Rattle.std.specs.Prelude.{slice_get}
-use Rattle.std.specs.declared.rc.Rc.{Rc}
-use Rattle.c11_macros.specs.Expansion.{case_of, stays}
-use Rattle.c11_macros.specs.Hidden.{Hidden, Provenance}
+use Rattle.std.proofs.Common.{◌≡◌, ℕ, ◌&&◌, not, Bool, true, false, true≢false, List, [], ◌∷◌, ◌++◌, All, drop, length, map, append-nil, Option, Some, None, Global, refl, sym, ap, subst, ◌∙◌, if◌then◌else◌, slice_get}
 use Rattle.c11_macros.specs.Macros as model
-use Rattle.c11_macros.specs.Macros.{Macros}
-use Rattle.c11_tokens.specs.Lex.{is_identifier_kind}
-use Rattle.sc_base.specs.declared.id.Cond.{Cond}
-use Rattle.sc_base.specs.declared.place.Place.{Place}
-use Rattle.sc_expand.proofs.Rests.{first-is}
+use Rattle.sc_expand.proofs.Facts.{All-cons, All-head, All-nil, All-tail, IsConfig-kept, Keeps-trans, and_parts}
 use Rattle.sc_expand.proofs.PlainCases.{undefined-stays}
+use Rattle.sc_expand.proofs.Rests.{first-is}
 use Rattle.sc_expand.proofs.SeenLemmas.{macros_at-Grows}
 use Rattle.sc_expand.proofs.TakingParts.{seen_by}
 use Rattle.sc_expand.proofs.TakingTurns.{FirstTaken, first-both, first-grew, first-own, first-ready}
+use Rattle.sc_expand.proofs.Terms.{At, Comes, Cond, Denotes, Expansion, Grows, HasPutOut, HiddenToken as Hidden, IsConfig, IsNever, Keeps, MacroTable, Macros, Place, Provenance, Rc, Sets, Step, Stores, Taken, Takes, at, case_of, is_identifier_kind, items_at, macros_at, provenance_of, seen_hidden, stays, step_at, stores, text_of}
 use Rattle.sc_expand.proofs.UnchangedLemmas.{both-Keeps}
-use Rattle.sc_expand.specs.declared.expansion.Expansion.{Expansion}
-use Rattle.sc_expand.specs.declared.taking.Taken.{Taken}
-use Rattle.sc_expand.specs.Machine.{at}
-use Rattle.sc_expand.specs.Seen.{Grows, Stores, provenance_of, stores}
 use Rattle.sc_expand.specs.Taking as taking
-use Rattle.sc_expand.specs.Taking.{Comes, HasPutOut, Step, Takes, step_at}
-use Rattle.sc_expand.specs.Turn.{At}
 use Rattle.sc_expand.specs.Unchanged as unchanged
 use Rattle.sc_expand.specs.Unchanged.{IsPushed, IsRestricted, IsUncalled, IsUndefined, LooksUpNone, Passes}
-use Rattle.sc_guarded.specs.Items.{items_at}
 use Rattle.sc_macro.specs.declared.definition.Definition.{Definition}
-use Rattle.sc_macro.specs.Seen.{text_of}
-use Rattle.sc_model.proofs.SetLemmas.{IsConfig-kept, Keeps-trans}
-use Rattle.sc_model.specs.Sets.{Sets, Denotes, IsConfig, IsNever, Keeps}
 use Rattle.sc_subst.specs.declared.hidden.Hidden as declared
-use Rattle.sc_subst.specs.Seen.{seen_hidden}
-use Rattle.sc_table.specs.declared.table.MacroTable.{MacroTable}
-use Rattle.sc_table.specs.Table.{macros_at}
 
 -- ---- what a look-up gives
 

@@ -1,27 +1,13 @@
 -- What configurations that wait keep of the whole list.
 use Rattle.std.proofs.Common.{◌≡◌, ℕ, ◌-◌, ◌&&◌, Bool, true, false, List, [], ◌∷◌, ◌++◌, All, append-nil, arith, drop, length, slice_get, Some, refl, sym, ap, subst, ◌∙◌, if◌then◌else◌}
-use Rattle.std.proofs.Math.Bool.{and-false, and-true}
-use Rattle.std.proofs.lemmas.List.{append_assoc, take_all}
-use Rattle.std.proofs.lemmas.List.Elements.{All-head}
-use Rattle.sc_base.specs.declared.id.Cond.{Cond}
-use Rattle.sc_expand.proofs.BottomLemmas.{bottom-frame}
 use Rattle.sc_expand.proofs.AlikeLemmas.{AreAlike-Keeps, alike-of, others-none}
+use Rattle.sc_expand.proofs.BottomLemmas.{bottom-frame}
+use Rattle.sc_expand.proofs.Facts.{All-head, IsConfig-Keeps, IsConfig-kept, Keeps-refl, and-false, and-true, append_assoc, take_all}
 use Rattle.sc_expand.proofs.PuttingOut.{pushed-alike, pushed-held, pushed-seen, pushed-some, some-Keeps}
 use Rattle.sc_expand.proofs.SeenLemmas.{Grows-refl, seen_at-Grows, seen_at-append}
 use Rattle.sc_expand.proofs.TakingSteps.{seen-first}
-use Rattle.sc_expand.specs.declared.expansion.Expansion.{Expansion}
-use Rattle.sc_expand.specs.declared.frame.Enclosing.{Enclosing}
-use Rattle.sc_expand.specs.Machine.{IsHeldExpansion, is_whole}
-use Rattle.sc_expand.specs.Alike.{IsAlikeExpansion, IsAlikeFrame, no_others}
-use Rattle.sc_expand.specs.Running.{IsApart, KeepsLeft, bottom, bottom_by, put_out}
-use Rattle.sc_expand.specs.Seen.{AreHeld, Grows, IsHeldToken, Stores, seen_at}
+use Rattle.sc_expand.proofs.Terms.{AreAlike, AreHeld, Cond, Enclosing, Expansion, Grows, Hidden, IsAlike, IsAlikeExpansion, IsAlikeFrame, IsApart, IsCond, IsConfig, IsHeldExpansion, IsHeldToken, IsNever, Keeps, KeepsFirst, KeepsLeft, Sets, Stores, bottom, bottom_by, is_whole, no_others, put_out, seen_at, seen_hidden}
 use Rattle.sc_expand.specs.Waiting as waiting
-use Rattle.sc_expand.specs.Waiting.{KeepsFirst}
-use Rattle.sc_hoist.specs.Alike.{AreAlike, IsAlike}
-use Rattle.sc_model.proofs.SetLemmas.{IsConfig-Keeps, IsConfig-kept, Keeps-refl}
-use Rattle.sc_model.specs.Sets.{Sets, IsCond, IsConfig, IsNever, Keeps}
-use Rattle.sc_subst.specs.declared.hidden.Hidden.{Hidden}
-use Rattle.sc_subst.specs.Seen.{seen_hidden}
 
 pub below-none : (below : List Enclosing) → is_whole below ≡ true → below ≡ []
 below-none [] is = refl

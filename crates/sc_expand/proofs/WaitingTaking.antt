@@ -1,31 +1,15 @@
 -- What configurations that wait have left as the first token of a list is taken.
 use Rattle.std.proofs.Common.{◌≡◌, ◌<◌, ◌&&◌, ℕ, Bool, true, false, List, [], ◌∷◌, ◌++◌, All, None, Some, append-nil, drop, length, map, slice_get, refl, sym, ap, subst, ◌∙◌, if◌then◌else◌}
-use Rattle.std.proofs.Math.Bool.{and-false}
-use Rattle.sc_base.specs.declared.id.Cond.{Cond}
 use Rattle.sc_expand.proofs.AlikeLemmas.{others-none}
+use Rattle.sc_expand.proofs.Facts.{IsConfig-Keeps, IsConfig-kept, and-false, slice_get_within}
 use Rattle.sc_expand.proofs.PuttingOut.{some-Keeps}
 use Rattle.sc_expand.proofs.Rests.{first-is, some-same}
 use Rattle.sc_expand.proofs.SeenLemmas.{Grows-trans, seen_at-Grows, seen_at-append}
 use Rattle.sc_expand.proofs.TakingTurns.{first-token, put-seen}
+use Rattle.sc_expand.proofs.Terms.{AreAlike, Cond, Denotes, Enclosing, Expansion, Grows, HasPutOut, Hidden, IsAlikeExpansion, IsApart, IsCond, IsConfig, IsFirstIn, IsHeldExpansion, IsHeldTaken, IsNever, IsPushed, Keeps, KeepsFirst, KeepsLeft, KeepsLists, KeepsNext, Sets, Stores, Taken, View, at, bottom, bottom_by, has_first, no_others, seen_at, seen_hidden}
 use Rattle.sc_expand.proofs.WaitingLemmas.{kept-alike, kept-inside, kept-left, kept-others, kept-some, rest-alike, same-left, whole-alike}
-use Rattle.sc_expand.specs.declared.expansion.Expansion.{Expansion}
-use Rattle.sc_expand.specs.declared.frame.Enclosing.{Enclosing}
-use Rattle.sc_expand.specs.declared.taking.Taken.{Taken}
-use Rattle.sc_expand.specs.Machine.{IsHeldExpansion, KeepsLists, at}
 use Rattle.sc_expand.specs.Running as running
-use Rattle.sc_expand.specs.Running.{IsApart, KeepsLeft, KeepsNext, bottom, bottom_by}
-use Rattle.sc_expand.specs.Seen.{Grows, Stores, View, seen_at}
-use Rattle.sc_expand.specs.Taking.{HasPutOut, IsHeldTaken, has_first}
-use Rattle.sc_expand.specs.Unchanged.{IsPushed}
 use Rattle.sc_expand.specs.Waiting as waiting
-use Rattle.sc_expand.specs.Waiting.{KeepsFirst}
-use Rattle.sc_expand.specs.Alike.{IsAlikeExpansion, IsFirstIn, no_others}
-use Rattle.sc_hoist.specs.Alike.{AreAlike}
-use Rattle.sc_model.proofs.SetLemmas.{IsConfig-Keeps, IsConfig-kept}
-use Rattle.sc_model.specs.Sets.{Denotes, IsCond, IsConfig, IsNever, Keeps, Sets}
-use Rattle.sc_subst.specs.declared.hidden.Hidden.{Hidden}
-use Rattle.sc_subst.specs.Seen.{seen_hidden}
-use Rattle.std.proofs.lemmas.Option.{slice_get_within}
 
 pub put-out-left : {old st new : Stores} {files : ℕ} → Grows old st → Grows st new → (was now next : Expansion) (taken : Taken) (token : Hidden) → IsHeldExpansion old files was → IsHeldExpansion st files now → IsHeldTaken st files taken
     → KeepsLists was now → HasPutOut st.sets new.sets taken token now next

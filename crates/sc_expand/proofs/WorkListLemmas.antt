@@ -1,17 +1,7 @@
 -- A list whose first items are restricted to a condition, one after the other.
 use Rattle.std.proofs.Common.{◌≡◌, ◌≢◌, ◌<◌, ℕ, inl, inr, ◌+◌, ◌&&◌, Bool, true, false, List, [], ◌∷◌, ◌++◌, All, map, take, drop, length, get_or, set, if◌then◌else◌, ap, sym, ◌∙◌, refl, subst, arith, add-zero}
-use Rattle.std.proofs.lemmas.Bool.{cases_eq}
-use Rattle.std.proofs.lemmas.List.{take_more_set, map-set, set-get_or, drop-set-lt, drop-drop, get_or_default, get_or-drop, get_or-set_other, get_or-set_same, get_or-take, length-map, length-take}
-use Rattle.std.proofs.lemmas.List.Elements.{All-head, All-tail, All-take, All-set}
-use Rattle.sc_base.specs.declared.id.Cond.{Cond}
-use Rattle.sc_guarded.proofs.ItemLemmas.{items_at-append, items_at-Keeps, items_at-take}
-use Rattle.sc_guarded.specs.Items.{items_at}
-use Rattle.sc_expand.specs.Having.{has_each}
-use Rattle.sc_hoist.specs.Alike.{AreAlike, IsAlike}
-use Rattle.std.proofs.Math.ListN.{get_or-map}
-use Rattle.sc_model.proofs.SetLemmas.{Keeps-trans, IsConfig-Keeps}
-use Rattle.sc_model.specs.Sets.{Sets, IsConfig, IsCond, Denotes, Keeps}
-use Rattle.std.proofs.Math.Bool.{and-true}
+use Rattle.sc_expand.proofs.Facts.{All-head, All-set, All-tail, All-take, IsConfig-Keeps, Keeps-trans, and-true, cases_eq, drop-drop, drop-set-lt, get_or-drop, get_or-map, get_or-set_other, get_or-set_same, get_or-take, get_or_default, items_at-Keeps, items_at-append, items_at-take, length-map, length-take, map-set, set-get_or, take_more_set}
+use Rattle.sc_expand.proofs.Terms.{AreAlike, Cond, Denotes, IsAlike, IsCond, IsConfig, Keeps, Sets, has_each, items_at}
 
 module _ {T : Type 0} where
   -- the first n items stand where they and the condition did

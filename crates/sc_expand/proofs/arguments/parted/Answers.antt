@@ -1,10 +1,8 @@
 use Rattle.std.proofs.Common.{◌∙◌, ◌++◌, [], All, arith, sym, ap, subst}
-use Rattle.std.proofs.lemmas.List.Elements.{All-nil}
+use Rattle.sc_expand.proofs.Facts.{All-nil}
 use Rattle.sc_expand.proofs.Parting.{begun-parted}
-use Rattle.sc_expand.specs.Arguments.{begun_with}
+use Rattle.sc_expand.proofs.Terms.{IsHeldHidden, begun_with, seen_arguments, seen_list}
 use Rattle.sc_expand.specs.Arguments as model
-use Rattle.sc_subst.specs.Parts.{seen_arguments, seen_list}
-use Rattle.sc_subst.specs.Seen.{IsHeldHidden}
 use Rattle.sc_expand.proofs.arguments.parted.Goals as goal
 
 pub loop-index-init : goal.loop-index-init

@@ -1,9 +1,7 @@
 use Rattle.std.proofs.Common.{◌≡◌, ◌≤◌, ◌-◌, List, All, drop, length}
 use Rattle.sc_base.specs.declared.id.Name as declared_name
+use Rattle.sc_expand.proofs.Terms.{IsHeldHidden, parted_with, seen_list}
 use Rattle.sc_expand.specs.Arguments as model
-use Rattle.sc_expand.specs.Parting.{parted_with}
-use Rattle.sc_subst.specs.Parts.{seen_list}
-use Rattle.sc_subst.specs.Seen.{IsHeldHidden}
 use Rattle.sc_expand.proofs.arguments.parted.Given as goal
 
 abbrev pub decreases-loop-index : goal.decreases-loop-index

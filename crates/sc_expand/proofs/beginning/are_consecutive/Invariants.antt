@@ -1,5 +1,5 @@
 use Rattle.std.proofs.Common.{◌≡◌, ◌+◌, ◌<◌, ℕ, Some}
-use Rattle.std.specs.List.{slice_get}
+use Rattle.sc_expand.proofs.Terms.{slice_get}
 use Rattle.sc_expand.proofs.beginning.are_consecutive.Given as goal
 
 abbrev pub invariant-loop-index : goal.invariant-loop-index

@@ -1,12 +1,7 @@
 use Rattle.std.proofs.Common.{map}
-use Rattle.std.proofs.lemmas.List.Elements.{All-weaker}
-use Rattle.sc_base.proofs.Growth.{Extends-refl}
 use Rattle.sc_expand.proofs.BeginningLemmas.{begins, files_of, held_call, in_none, in_some, tokens_later}
-use Rattle.sc_expand.specs.declared.call.Call.{Call}
-use Rattle.sc_expand.specs.Seen.{stores}
-use Rattle.sc_macro.specs.Seen.{seen_form, seen_item}
-use Rattle.sc_subst.specs.Seen.{IsHeldHidden}
-use Rattle.sc_subst.proofs.Later.{IsHeldHidden-Extends}
+use Rattle.sc_expand.proofs.Facts.{All-weaker, Extends-refl, IsHeldHidden-Extends}
+use Rattle.sc_expand.proofs.Terms.{Call, IsHeldHidden, seen_form, seen_item, stores}
 use Rattle.sc_expand.proofs.beginning.begin_call.Goals as goal
 
 pub template_of-requires-clause-raw : goal.template_of-requires-clause-raw

@@ -1,9 +1,8 @@
 use Rattle.std.proofs.Common.{◌≡◌, ◌∙◌, ◌+◌, ◌<◌, ◌≤◌, All, ap, arith, get_or, length, subst, sym}
-use Rattle.std.proofs.lemmas.List.{length-map}
-use Rattle.sc_base.specs.declared.id.Cond.{Cond}
 use Rattle.sc_expand.proofs.BeginningLemmas.{consecutive_shared, consecutive_within, map_ok, tokens_under}
+use Rattle.sc_expand.proofs.Facts.{length-map}
 use Rattle.sc_expand.proofs.GatherPlaces.{held-tokens}
-use Rattle.sc_subst.specs.declared.hidden.Hidden.{Hidden}
+use Rattle.sc_expand.proofs.Terms.{Cond, Hidden}
 use Rattle.sc_expand.proofs.beginning.between.Goals as goal
 
 pub overflow_add-first : goal.overflow_add-first

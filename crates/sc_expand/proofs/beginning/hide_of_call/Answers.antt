@@ -1,14 +1,7 @@
 use Rattle.std.proofs.Common.{◌≡◌, ◌∙◌, ◌<◌, ◌||◌, [], ◌∷◌, Bool, length, ap, sym}
-use Rattle.std.proofs.Math.Bool.{or-false}
-use Rattle.std.specs.List.{list_any}
-use Rattle.std.proofs.lemmas.List.Elements.{All-cons, All-nil}
-use Rattle.c11_macros.specs.Hidden.{meet}
-use Rattle.sc_base.specs.declared.id.Name.{Name}
+use Rattle.sc_expand.proofs.Facts.{All-cons, All-nil, held_common, held_union, or-false, same_sets, seen_common}
+use Rattle.sc_expand.proofs.Terms.{Name, list_any, meet, same_bytes, set_at, texts_in}
 use Rattle.sc_macro.specs.Seen.{AreHeld, text_of}
-use Rattle.sc_model.specs.Bytes.{same_bytes}
-use Rattle.sc_subst.specs.Hides.{set_at}
-use Rattle.sc_subst.specs.Seen.{texts_in}
-use Rattle.sc_subst.proofs.SeenLaws.{held_common, held_union, same_sets, seen_common}
 use Rattle.sc_expand.proofs.beginning.hide_of_call.Goals as goal
 
 pub returns-clause-is : goal.returns-clause-is

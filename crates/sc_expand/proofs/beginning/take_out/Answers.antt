@@ -1,17 +1,10 @@
 use Rattle.std.proofs.Common.{◌≡◌, ◌∙◌, ℕ, List, [], false, true, not, ap, inl, inr, take, if◌then◌else◌}
-use Rattle.std.proofs.lemmas.Bool.{cases_Bool}
-use Rattle.std.proofs.lemmas.List.Elements.{All-take}
-use Rattle.sc_base.specs.declared.id.Cond.{Cond}
 use Rattle.sc_expand.proofs.AlikeLemmas.{AreAlike-Keeps, alike-of}
 use Rattle.sc_expand.proofs.BeginningLemmas.{first_gone, taken_out}
+use Rattle.sc_expand.proofs.Facts.{All-take, Denotes-self, IsConfig-Keeps, Keeps-trans, cases_Bool, items_at-Keeps}
 use Rattle.sc_expand.proofs.LastLemmas.{last-each, last-out}
+use Rattle.sc_expand.proofs.Terms.{Cond, Hidden, IsCond, IsConfig, has_each, items_at}
 use Rattle.sc_expand.proofs.WorkListLemmas.{has_each-Keeps}
-use Rattle.sc_expand.specs.Having.{has_each}
-use Rattle.sc_guarded.proofs.ItemLemmas.{items_at-Keeps}
-use Rattle.sc_guarded.specs.Items.{items_at}
-use Rattle.sc_model.proofs.SetLemmas.{Denotes-self, IsConfig-Keeps, Keeps-trans}
-use Rattle.sc_model.specs.Sets.{IsCond, IsConfig}
-use Rattle.sc_subst.specs.declared.hidden.Hidden.{Hidden}
 use Rattle.sc_expand.proofs.beginning.take_out.Goals as goal
 
 pub returns : goal.returns

@@ -1,15 +1,8 @@
 use Rattle.std.proofs.Common.{◌≡◌, ◌∙◌, List, [], Ok, Err, map, sym}
-use Rattle.c11_macros.specs.Hidden as model
-use Rattle.c11_macros.specs.Hidden.{failure_at, no_names}
-use Rattle.sc_base.specs.declared.place.Place.{Place}
-use Rattle.sc_base.proofs.Growth.{Extends-refl}
 use Rattle.sc_expand.proofs.BeginningLemmas.{Fails, map_none, map_ok, map_some, no_hash, refused_none, refused_some}
+use Rattle.sc_expand.proofs.Facts.{Extends-refl}
 use Rattle.sc_expand.proofs.Placing.{held-template}
-use Rattle.sc_expand.specs.Seen.{provenance_of, stores}
-use Rattle.sc_model.specs.declared.cause.Cause.TheVariants.{BadStringize}
-use Rattle.sc_macro.specs.Seen.{seen_form, seen_item}
-use Rattle.sc_subst.specs.Parts.{seen_arguments}
-use Rattle.sc_subst.specs.Stops.{OnFault}
+use Rattle.sc_expand.proofs.Terms.{BadStringize, HiddenToken, OnFault, Place, failure_at, no_names, provenance_of, seen_arguments, seen_form, seen_item, stores}
 use Rattle.sc_expand.proofs.beginning.template_of.Goals as goal
 
 pub returns-in-Ok-clause-some : goal.returns-in-Ok-clause-some
@@ -22,7 +15,7 @@ returns-in-Ok-clause-some c = record {
   };
 }
   where
-    differs : {made : List (model.Hidden Place)} (head : model.Hidden Place) → Ok made ≡ Err (failure_at BadStringize head) → ⊥
+    differs : {made : List (HiddenToken Place)} (head : HiddenToken Place) → Ok made ≡ Err (failure_at BadStringize head) → ⊥
     differs head is = cc
 
 pub returns-in-Ok-clause-held : goal.returns-in-Ok-clause-held

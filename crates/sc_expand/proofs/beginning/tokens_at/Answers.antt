@@ -1,7 +1,6 @@
 use Rattle.std.proofs.Common.{◌≡◌, ◌∙◌, ◌++◌, [], ◌∷◌, map, take, get_or, sym, ap}
-use Rattle.std.proofs.lemmas.List.{map-append, take_more}
-use Rattle.std.proofs.lemmas.Option.{get_or_from_slice_get}
-use Rattle.sc_expand.specs.Beginning.{token_at}
+use Rattle.sc_expand.proofs.Facts.{get_or_from_slice_get, map-append, take_more}
+use Rattle.sc_expand.proofs.Terms.{token_at}
 use Rattle.sc_expand.proofs.beginning.tokens_at.Goals as goal
 
 pub loop-place-preserved : goal.loop-place-preserved

@@ -1,9 +1,6 @@
 use Rattle.std.proofs.Common.{◌≡◌, ◌∙◌, ◌+◌, ◌-◌, ◌<◌, ℕ, [], ◌∷◌, All, arith, map, drop, get_or, length, reverse, sym, ap, subst}
-use Rattle.std.proofs.lemmas.List.{drop_more, reverse-append}
-use Rattle.std.proofs.lemmas.List.Elements.{All-push}
-use Rattle.sc_expand.specs.Beginning.{tokens_of, with_argument}
-use Rattle.sc_expand.specs.Seen.{IsHeldToken}
-use Rattle.sc_expand.specs.declared.call.Wanted.{Wanted}
+use Rattle.sc_expand.proofs.Facts.{All-push, drop_more, reverse-append}
+use Rattle.sc_expand.proofs.Terms.{IsHeldToken, Wanted, tokens_of, with_argument}
 use Rattle.sc_expand.proofs.beginning.wanted_arguments.Goals as goal
 
 pub loop-index-preserved : goal.loop-index-preserved

@@ -1,7 +1,5 @@
 use Rattle.std.proofs.Common.{◌≡◌, ℕ, All, map, drop, reverse}
-use Rattle.sc_expand.specs.Beginning.{tokens_of, with_argument}
-use Rattle.sc_expand.specs.Seen.{IsHeldToken, Stores}
-use Rattle.sc_expand.specs.declared.call.Wanted.{Wanted}
+use Rattle.sc_expand.proofs.Terms.{IsHeldToken, Stores, Wanted, tokens_of, with_argument}
 use Rattle.sc_expand.proofs.beginning.wanted_arguments.Given as goal
 
 abbrev pub invariant-loop-index : goal.invariant-loop-index

@@ -1,18 +1,9 @@
 use Rattle.std.proofs.Common.{◌<◌, ◌&&◌, ◌∙◌, [], not, ap, map, sym, take, if◌then◌else◌}
 use Rattle.sc_expand.proofs.AlikeFilling.{items_at-alike}
-use Rattle.std.proofs.lemmas.List.Elements.{All-map}
-use Rattle.sc_expand.proofs.RestrictedLists.{restricted-alike, restricted-all, restricted-items, restricted-own, restricted-some}
-use Rattle.sc_expand.specs.Closing.{is_several, unclosed_at}
 use Rattle.sc_expand.proofs.Ending.{bared, items-bared}
-use Rattle.sc_base.specs.Seen.{IsHeld}
-use Rattle.sc_base.specs.declared.id.Cond.{Cond}
-use Rattle.sc_base.specs.declared.token.Token.{Token}
-use Rattle.sc_guarded.proofs.ItemLemmas.{items_at-Keeps}
-use Rattle.sc_guarded.specs.Items.{items_at}
-use Rattle.sc_hoist.specs.Alike.{AreAlike, IsAlike}
-use Rattle.sc_model.proofs.SetLemmas.{Denotes-Keeps, Denotes-self, IsConfig-Keeps, Keeps-trans}
-use Rattle.sc_model.specs.Sets.{Keeps}
-use Rattle.sc_subst.specs.declared.hidden.Hidden.{Hidden}
+use Rattle.sc_expand.proofs.Facts.{All-map, Denotes-Keeps, Denotes-self, IsConfig-Keeps, Keeps-trans, items_at-Keeps}
+use Rattle.sc_expand.proofs.RestrictedLists.{restricted-alike, restricted-all, restricted-items, restricted-own, restricted-some}
+use Rattle.sc_expand.proofs.Terms.{AreAlike, Cond, Hidden, IsAlike, IsHeld, Keeps, Token, is_several, items_at, unclosed_at}
 use Rattle.sc_expand.proofs.closing.close.Goals as goal
 
 pub returns-clause-closed : goal.returns-clause-closed

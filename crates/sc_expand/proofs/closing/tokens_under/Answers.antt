@@ -1,13 +1,8 @@
 use Rattle.std.proofs.Common.{◌≡◌, true≢false, [], ◌++◌, ◌∷◌, ◌+◌, ◌∙◌, List, map, take, ap, sym, subst}
-use Rattle.std.proofs.lemmas.List.{map-append}
 use Rattle.sc_expand.proofs.ClosingLemmas.{Adds, added, at-index, left_out, next-item, own-bared, restricted-next}
-use Rattle.sc_expand.specs.Unchanged.{IsRestricted, empty}
 use Rattle.sc_expand.proofs.Ending.{bared}
-use Rattle.sc_base.specs.declared.id.Cond.{Cond}
-use Rattle.sc_base.specs.declared.token.Token.{Token}
-use Rattle.sc_model.proofs.SetLemmas.{Denotes-self, Keeps-refl, Keeps-trans}
-use Rattle.sc_model.specs.Sets.{IsCond}
-use Rattle.sc_subst.specs.declared.hidden.Hidden.{Hidden}
+use Rattle.sc_expand.proofs.Facts.{Denotes-self, Keeps-refl, Keeps-trans, map-append}
+use Rattle.sc_expand.proofs.Terms.{Cond, Hidden, IsCond, IsRestricted, Token, empty}
 use Rattle.sc_expand.proofs.closing.tokens_under.Goals as goal
 use Rattle.sc_expand.proofs.closing.tokens_under.Goals.{then-not-is_never+in_ok-push, else-not-is_never}
 

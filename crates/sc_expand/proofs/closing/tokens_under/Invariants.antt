@@ -1,7 +1,6 @@
 use Rattle.std.proofs.Common.{map, take}
-use Rattle.sc_expand.specs.Unchanged.{IsRestricted}
 use Rattle.sc_expand.proofs.Ending.{bared}
-use Rattle.sc_model.specs.Sets.{Keeps}
+use Rattle.sc_expand.proofs.Terms.{IsRestricted, Keeps}
 use Rattle.sc_expand.proofs.closing.tokens_under.Given as goal
 
 abbrev pub invariant-loop-index : goal.invariant-loop-index

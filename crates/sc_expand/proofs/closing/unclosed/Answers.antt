@@ -1,20 +1,10 @@
 use Rattle.std.proofs.Common.{◌<◌, ◌+◌, ◌&&◌, ◌∙◌, [], not, true, true≢false, All, ap, arith, map, sym, subst, take, take_all, if◌then◌else◌}
-use Rattle.std.proofs.lemmas.List.Elements.{All-nil}
-use Rattle.std.proofs.Math.Bool.{and-true}
+use Rattle.sc_expand.proofs.AlikeLemmas.{none-told}
 use Rattle.sc_expand.proofs.ClosingLemmas.{Adds, Denotes-as, added, all-next, any-push, at-index, faults-next, is_any, left-step, left_out, met-alike, next-items}
-use Rattle.sc_expand.specs.Closing.{unclosed_at}
-use Rattle.sc_expand.specs.Seen.{failures_at}
-use Rattle.sc_base.specs.declared.fault.Fault.{Fault}
-use Rattle.sc_base.specs.declared.id.Cond.{Cond}
-use Rattle.sc_guarded.specs.Items.{items_at}
-use Rattle.sc_hoist.specs.Alike.{IsAlike}
-use Rattle.sc_model.proofs.SetLemmas.{Denotes-Keeps, Denotes-self, IsConfig-Keeps, Keeps-refl, Keeps-trans}
-use Rattle.sc_model.specs.Sets.{IsCond, IsNever}
-use Rattle.sc_model.specs.declared.cause.Cause.TheVariants.{UnterminatedCall}
-use Rattle.sc_subst.specs.declared.hidden.Hidden.{Hidden}
+use Rattle.sc_expand.proofs.Facts.{All-nil, Denotes-Keeps, Denotes-self, IsConfig-Keeps, Keeps-refl, Keeps-trans, and-true}
+use Rattle.sc_expand.proofs.Terms.{Cond, Fault, Hidden, IsAlike, IsCond, IsNever, UnterminatedCall, failures_at, items_at, unclosed_at}
 use Rattle.sc_expand.proofs.closing.unclosed.Goals as goal
 use Rattle.sc_expand.proofs.closing.unclosed.Goals.{then-not-is_never+in_ok-push, else-not-is_never}
-use Rattle.sc_expand.proofs.AlikeLemmas.{none-told}
 
 pub loop-index-init : goal.loop-index-init
 loop-index-init g c =

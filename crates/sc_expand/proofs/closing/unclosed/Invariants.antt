@@ -1,13 +1,6 @@
 use Rattle.std.proofs.Common.{◌≡◌, ◌&&◌, ◌<◌, not, All, List, [], ℕ, map, take, if◌then◌else◌}
 use Rattle.sc_expand.proofs.ClosingLemmas.{is_any}
-use Rattle.sc_expand.specs.Closing.{unclosed_at}
-use Rattle.sc_expand.specs.Seen.{failures_at}
-use Rattle.sc_base.specs.declared.fault.Fault.{Fault}
-use Rattle.sc_base.specs.declared.id.Cond.{Cond}
-use Rattle.sc_guarded.specs.Items.{items_at}
-use Rattle.sc_hoist.specs.Alike.{AreAlike, AreAlikeFaults, IsAlike}
-use Rattle.sc_model.specs.Sets.{Denotes, IsCond, IsConfig, IsNever, Keeps}
-use Rattle.sc_subst.specs.declared.hidden.Hidden.{Hidden}
+use Rattle.sc_expand.proofs.Terms.{AreAlike, AreAlikeFaults, Cond, Denotes, Fault, Hidden, IsAlike, IsCond, IsConfig, IsNever, Keeps, failures_at, items_at, unclosed_at}
 use Rattle.sc_expand.proofs.closing.unclosed.Given as goal
 
 abbrev pub invariant-loop-index : goal.invariant-loop-index

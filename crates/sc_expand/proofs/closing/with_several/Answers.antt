@@ -1,11 +1,7 @@
 use Rattle.std.proofs.Common.{ap, sym, ◌∙◌, ◌+◌, take}
 use Rattle.sc_expand.proofs.ClosingLemmas.{Denotes-as, any-push, at-index, is_any, next-items, several-push}
-use Rattle.sc_expand.specs.Closing.{is_several}
-use Rattle.sc_base.specs.declared.id.Cond.{Cond}
-use Rattle.sc_guarded.specs.Items.{items_at}
-use Rattle.sc_model.proofs.SetLemmas.{Denotes-Keeps, Denotes-self, Keeps-trans}
-use Rattle.sc_model.specs.Sets.{IsCond}
-use Rattle.sc_subst.specs.declared.hidden.Hidden.{Hidden}
+use Rattle.sc_expand.proofs.Facts.{Denotes-Keeps, Denotes-self, Keeps-trans}
+use Rattle.sc_expand.proofs.Terms.{Cond, Hidden, IsCond, is_several, items_at}
 use Rattle.sc_expand.proofs.closing.with_several.Goals as goal
 
 pub apply_and-requires-clause-a_own : goal.apply_and-requires-clause-a_own

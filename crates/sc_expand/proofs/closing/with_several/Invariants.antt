@@ -1,8 +1,6 @@
 use Rattle.std.proofs.Common.{take}
 use Rattle.sc_expand.proofs.ClosingLemmas.{is_any}
-use Rattle.sc_expand.specs.Closing.{is_several}
-use Rattle.sc_guarded.specs.Items.{items_at}
-use Rattle.sc_model.specs.Sets.{Denotes, Keeps}
+use Rattle.sc_expand.proofs.Terms.{Denotes, Keeps, is_several, items_at}
 use Rattle.sc_expand.proofs.closing.with_several.Given as goal
 
 abbrev pub invariant-loop-index : goal.invariant-loop-index

@@ -1,6 +1,6 @@
 use Rattle.std.proofs.Common.{arith, ap, ◌∙◌, ◌++◌}
-use Rattle.std.proofs.lemmas.List.{take_all}
 use Rattle.sc_expand.proofs.Ending.{more-next}
+use Rattle.sc_expand.proofs.Facts.{take_all}
 use Rattle.sc_expand.proofs.expanding.append_tokens.Goals as goal
 
 pub loop-index-preserved : goal.loop-index-preserved

@@ -1,22 +1,13 @@
 use Rattle.std.proofs.Common.{ℕ, List, length, subst, sym, ◌∙◌}
-use Rattle.std.proofs.lemmas.Result.{err_from_is_err_and}
-use Rattle.sc_base.specs.declared.id.Cond.{Cond}
-use Rattle.sc_base.specs.declared.token.Token.{Token}
 use Rattle.sc_expand.proofs.AlikeLemmas.{IsAlike-Keeps, all-back}
 use Rattle.sc_expand.proofs.Ending.{bared}
 use Rattle.sc_expand.proofs.ExpandLemmas.{answer-alike, answer-held, answer-some, done-empty, done-expanded, hidden-held, source-defines}
+use Rattle.sc_expand.proofs.Facts.{IsConfig-Keeps, IsConfig-kept, IsTable-Extends, IsTable-Keeps, Keeps-trans, err_from_is_err_and, macros_at-Extends, macros_at-Keeps}
 use Rattle.sc_expand.proofs.FootprintPlaces.{text-stops}
 use Rattle.sc_expand.proofs.PlainTables.{entry_names, within-table}
 use Rattle.sc_expand.proofs.SpanFootprints.{apart-stops}
+use Rattle.sc_expand.proofs.Terms.{AreAlike, Cond, DefinesNone, IsAlike, IsConfig, IsRestricted, Token, macros_at, provenance_of, seen_hidden}
 use Rattle.sc_expand.proofs.UnchangedAnswers.{answer-unchanged, no-more-faults, none-more}
-use Rattle.sc_expand.specs.Seen.{provenance_of}
-use Rattle.sc_expand.specs.Unchanged.{DefinesNone, IsRestricted}
-use Rattle.sc_hoist.specs.Alike.{AreAlike, IsAlike}
-use Rattle.sc_model.proofs.SetLemmas.{IsConfig-Keeps, IsConfig-kept, Keeps-trans}
-use Rattle.sc_model.specs.Sets.{IsConfig}
-use Rattle.sc_subst.specs.Seen.{seen_hidden}
-use Rattle.sc_table.proofs.Growth.{macros_at-Extends, macros_at-Keeps, IsTable-Extends, IsTable-Keeps}
-use Rattle.sc_table.specs.Table.{macros_at}
 use Rattle.sc_expand.proofs.expanding.expand.Goals as goal
 
 pub settle-requires-clause-held : goal.settle-requires-clause-held

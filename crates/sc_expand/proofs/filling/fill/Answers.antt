@@ -1,23 +1,9 @@
 use Rattle.std.proofs.Common.{◌≡◌, ◌∙◌, ◌++◌, ℕ, [], true, false, Bool, List, All, map, sym, ap, subst}
-use Rattle.std.proofs.lemmas.List.Elements.{All-nil}
-use Rattle.c11_macros.specs.Substitution.{hidden_by, hiding, with_space}
-use Rattle.sc_base.proofs.Growth.{Extends-refl}
-use Rattle.sc_base.specs.declared.id.Cond.{Cond}
 use Rattle.sc_expand.proofs.AlikeFilling.{AreAlike-conditions, AreAlike-nil}
 use Rattle.sc_expand.proofs.AlikeLemmas.{IsAlike-Keeps}
+use Rattle.sc_expand.proofs.Facts.{All-nil, Extends-refl, IsConfig-Keeps, Keeps-trans, hide_later, spaced_first}
 use Rattle.sc_expand.proofs.FillingLemmas.{items_later, items_seen, made_held, parts_seen}
-use Rattle.sc_expand.specs.Filling.{Adds, AllHeld, first_spaced_if, parts_at}
-use Rattle.sc_expand.specs.Seen.{AreHeld, IsHeldPartIn, IsHeldToken, Stores, provenance_of, stores}
-use Rattle.sc_guarded.specs.Items.{items_at}
-use Rattle.sc_hoist.specs.Alike.{AreAlike, IsAlike}
-use Rattle.sc_model.proofs.SetLemmas.{IsConfig-Keeps, Keeps-trans}
-use Rattle.sc_model.specs.Sets.{Sets, IsConfig}
-use Rattle.sc_subst.proofs.Later.{hide_later}
-use Rattle.sc_subst.proofs.TokenLemmas.{spaced_first}
-use Rattle.sc_subst.specs.declared.hidden.Hidden.{Hidden}
-use Rattle.sc_subst.specs.declared.part.Part.{Part}
-use Rattle.sc_subst.specs.Parts.{filled_in, seen_part}
-use Rattle.sc_subst.specs.Seen.{hide_at, seen_hidden}
+use Rattle.sc_expand.proofs.Terms.{Adds, AllHeld, AreAlike, AreHeld, Cond, Hidden, IsAlike, IsConfig, IsHeldPartIn, IsHeldToken, Part, Sets, Stores, filled_in, first_spaced_if, hidden_by, hide_at, hiding, items_at, parts_at, provenance_of, seen_hidden, seen_part, stores, with_space}
 use Rattle.sc_expand.proofs.filling.fill.Goals as goal
 
 -- the parts, with the first token spaced, are held

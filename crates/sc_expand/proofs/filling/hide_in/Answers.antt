@@ -1,15 +1,7 @@
 use Rattle.std.proofs.Common.{◌≡◌, ◌<◌, ◌∙◌, [], All, map, length, refl, sym, ap, subst}
 use Rattle.std.proofs.lemmas.List.{length-map, get_or-map}
-use Rattle.std.proofs.lemmas.List.Elements.{All-map}
-use Rattle.std.proofs.lemmas.Simd.{map-map}
-use Rattle.c11_macros.specs.Hidden as model
-use Rattle.c11_macros.specs.Substitution.{hidden_by, hiding}
-use Rattle.sc_base.proofs.Growth.{Extends-refl}
-use Rattle.sc_base.specs.declared.id.Cond.{Cond}
-use Rattle.sc_base.specs.declared.place.Place.{Place}
-use Rattle.sc_expand.specs.Seen.{provenance_of}
-use Rattle.sc_subst.specs.declared.hidden.Hidden.{Hidden}
-use Rattle.sc_subst.specs.Seen.{IsHeldHidden, hide_at, seen_hidden}
+use Rattle.sc_expand.proofs.Facts.{All-map, Extends-refl, map-map}
+use Rattle.sc_expand.proofs.Terms.{Cond, Hidden, HiddenToken, IsHeldHidden, Place, hidden_by, hide_at, hiding, provenance_of, seen_hidden}
 use Rattle.sc_expand.proofs.filling.hide_in.Goals as goal
 
 pub hide_all-requires-clause-tokens : goal.hide_all-requires-clause-tokens
@@ -21,8 +13,8 @@ pub paired-requires : goal.paired-requires
 paired-requires c =
     let names = c.args.names.now in
     let sets = c.hide_all.new.sets in
-    let see : Hidden → model.Hidden Place = seen_hidden names sets in
-    let hides : model.Hidden Place → model.Hidden Place = hidden_by (provenance_of []) (hide_at names sets c.args.hide.0) in
+    let see : Hidden → HiddenToken Place = seen_hidden names sets in
+    let hides : HiddenToken Place → HiddenToken Place = hidden_by (provenance_of []) (hide_at names sets c.args.hide.0) in
     let is = c.in_ok-hidden.ensures.is.at names sets (Extends-refl names) (Extends-refl sets) (provenance_of []) (λ p. refl) in
     ap length c.deref-2.ensures.value ∙ (sym (length-map c.in_ok-hidden.hidden.items see)
     ∙ (ap length is
@@ -33,7 +25,7 @@ pub returns-clause-is : goal.returns-clause-is
 returns-clause-is c =
     let names = c.args.names.now in
     let sets = c.hide_all.new.sets in
-    let see : Hidden → model.Hidden Place = seen_hidden names sets in
+    let see : Hidden → HiddenToken Place = seen_hidden names sets in
     let only : Cond × Hidden → Hidden = λ item. item.1 in
     let is = c.in_ok-hidden.ensures.is.at names sets (Extends-refl names) (Extends-refl sets) (provenance_of []) (λ p. refl) in
     sym (map-map see only c.in_ok-made.made.items)

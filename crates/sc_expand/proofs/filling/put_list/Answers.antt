@@ -1,12 +1,7 @@
 use Rattle.std.proofs.Common.{◌≤◌, length, sym, ap, subst, arith, take_all}
-use Rattle.std.proofs.lemmas.Option.{get_or_from_slice_get, slice_get_within}
-use Rattle.sc_base.specs.declared.id.Cond.{Cond}
+use Rattle.sc_expand.proofs.Facts.{Denotes-Keeps, Denotes-self, Keeps-trans, get_or_from_slice_get, slice_get_within}
 use Rattle.sc_expand.proofs.FillingLemmas.{adds-as, puts_more, puts_none}
-use Rattle.sc_expand.specs.Filling.{first_spaced_if}
-use Rattle.sc_guarded.specs.Items.{items_at}
-use Rattle.sc_model.proofs.SetLemmas.{Denotes-Keeps, Denotes-self, Keeps-trans}
-use Rattle.sc_model.specs.Sets.{IsCond}
-use Rattle.sc_subst.specs.declared.hidden.Hidden.{Hidden}
+use Rattle.sc_expand.proofs.Terms.{Cond, Hidden, IsCond, first_spaced_if, items_at}
 use Rattle.sc_expand.proofs.filling.put_list.Goals as goal
 
 pub loop-index-init : goal.loop-index-init

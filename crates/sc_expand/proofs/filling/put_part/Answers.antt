@@ -1,13 +1,7 @@
 use Rattle.std.proofs.Common.{◌≡◌, ◌≤◌, ◌∙◌, [], ap, get_or, length, subst, sym}
-use Rattle.std.proofs.lemmas.Bool.{ltb-false}
-use Rattle.std.proofs.lemmas.List.{get_or_past}
-use Rattle.std.proofs.lemmas.Result.{on_ok_weaker}
+use Rattle.sc_expand.proofs.Facts.{Keeps-refl, get_or_past, ltb-false, on_ok_weaker}
 use Rattle.sc_expand.proofs.FillingLemmas.{adds-as, adds-none, adds-one, nothing_spaced}
-use Rattle.sc_expand.specs.Filling.{AllHeld, first_spaced_if, part_at}
-use Rattle.sc_expand.specs.Seen.{IsHeldPartIn}
-use Rattle.sc_guarded.specs.Items.{items_at}
-use Rattle.sc_hoist.specs.Alike.{AreAlike}
-use Rattle.sc_model.proofs.SetLemmas.{Keeps-refl}
+use Rattle.sc_expand.proofs.Terms.{AllHeld, AreAlike, IsHeldPartIn, first_spaced_if, items_at, part_at}
 use Rattle.sc_expand.proofs.filling.put_part.Goals as goal
 
 pub returns-in_ok-push-in-Token-clause-adds : goal.returns-in_ok-push-in-Token-clause-adds

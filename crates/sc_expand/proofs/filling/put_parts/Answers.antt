@@ -1,11 +1,7 @@
 use Rattle.std.proofs.Common.{[], ap, refl, subst, sym, take_all}
-use Rattle.std.proofs.lemmas.List.Elements.{All-nil}
-use Rattle.sc_base.specs.declared.id.Cond.{Cond}
+use Rattle.sc_expand.proofs.Facts.{All-nil, Keeps-refl, Keeps-trans}
 use Rattle.sc_expand.proofs.FillingLemmas.{adds-as, adds-none, fills_more}
-use Rattle.sc_expand.specs.Filling.{Adds, parts_at}
-use Rattle.sc_model.proofs.SetLemmas.{Keeps-refl, Keeps-trans}
-use Rattle.sc_model.specs.Sets.{IsCond}
-use Rattle.sc_subst.specs.declared.hidden.Hidden.{Hidden}
+use Rattle.sc_expand.proofs.Terms.{Adds, Cond, Hidden, IsCond, parts_at}
 use Rattle.sc_expand.proofs.filling.put_parts.Goals as goal
 
 pub loop-part-init : goal.loop-part-init

@@ -1,9 +1,8 @@
 use Rattle.std.proofs.Common.{◌∙◌, ◌&&◌, ◌++◌, ◌∷◌, [], not, sym, ap, subst, if◌then◌else◌}
 use Rattle.sc_expand.proofs.AlikeLemmas.{IsAlike-Keeps, alike-of}
+use Rattle.sc_expand.proofs.Facts.{Denotes-Keeps, Denotes-self, IsConfig-Keeps, Keeps-refl, Keeps-trans}
 use Rattle.sc_expand.proofs.FillingLemmas.{adds-as, adds-none, adds-one, adds-then, spaced_token, put_parted, put_whole, rest_parted, rest_whole}
-use Rattle.sc_expand.specs.Filling.{spaced}
-use Rattle.sc_expand.specs.Seen.{IsHeldToken}
-use Rattle.sc_model.proofs.SetLemmas.{Denotes-self, Denotes-Keeps, IsConfig-Keeps, Keeps-refl, Keeps-trans}
+use Rattle.sc_expand.proofs.Terms.{IsHeldToken, spaced}
 use Rattle.sc_expand.proofs.filling.put_spaced.Goals as goal
 
 pub returns-then-is_never-clause-adds : goal.returns-then-is_never-clause-adds

@@ -1,8 +1,7 @@
 use Rattle.std.proofs.Common.{◌≤◌, ◌∙◌, refl, map, length, sym, ap, arith, take_all}
-use Rattle.std.proofs.lemmas.List.{length-map, map-id}
-use Rattle.sc_base.specs.declared.id.Cond.{Cond}
+use Rattle.sc_expand.proofs.Facts.{length-map, map-id}
 use Rattle.sc_expand.proofs.FillingLemmas.{taken_more}
-use Rattle.sc_subst.specs.declared.hidden.Hidden.{Hidden}
+use Rattle.sc_expand.proofs.Terms.{Cond, Hidden}
 use Rattle.sc_expand.proofs.filling.tokens_of.Goals as goal
 
 pub loop-index-preserved : goal.loop-index-preserved

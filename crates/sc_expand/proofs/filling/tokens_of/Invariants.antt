@@ -1,6 +1,5 @@
 use Rattle.std.proofs.Common.{◌≡◌, map, take}
-use Rattle.sc_base.specs.declared.id.Cond.{Cond}
-use Rattle.sc_subst.specs.declared.hidden.Hidden.{Hidden}
+use Rattle.sc_expand.proofs.Terms.{Cond, Hidden}
 use Rattle.sc_expand.proofs.filling.tokens_of.Given as goal
 
 abbrev pub invariant-loop-index : goal.invariant-loop-index

@@ -1,6 +1,6 @@
 use Rattle.std.proofs.Common.{◌∙◌, refl, sym}
 use Rattle.sc_expand.proofs.FirstCallLemmas.{Denotes-closed, Denotes-other, IsClosedCall-known}
-use Rattle.sc_hoist.specs.Calls.{alone, bare, still}
+use Rattle.sc_expand.proofs.Terms.{alone, bare, still}
 use Rattle.sc_expand.proofs.first_calls.first_calls.Goals as goal
 
 pub returns-in_ok-indexes_to-in-Some-clause-closed : goal.returns-in_ok-indexes_to-in-Some-clause-closed

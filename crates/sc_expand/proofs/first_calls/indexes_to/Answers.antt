@@ -1,6 +1,6 @@
 use Rattle.std.proofs.Common.{◌≡◌, ◌∙◌, ◌++◌, [], ◌∷◌, ap, arith}
-use Rattle.sc_expand.specs.FirstCalls.{indexes_from}
 use Rattle.sc_expand.proofs.FirstCallLemmas.{indexes_from-more}
+use Rattle.sc_expand.proofs.Terms.{indexes_from}
 use Rattle.sc_expand.proofs.first_calls.indexes_to.Goals as goal
 
 pub loop-index-preserved : goal.loop-index-preserved

@@ -1,8 +1,7 @@
 use Rattle.std.proofs.Common.{◌≡◌, subst}
-use Rattle.c11_macros.proofs.OneAnswer.{one_footprint}
-use Rattle.c11_macros.specs.Footprint.{footprint}
-use Rattle.c11_macros.specs.Runs.{End, fails, over}
+use Rattle.sc_expand.proofs.Facts.{one_footprint}
 use Rattle.sc_expand.proofs.RunFootprints.{FailsWith, Prints, run-prints}
+use Rattle.sc_expand.proofs.Terms.{End, fails, footprint, over}
 use Rattle.sc_expand.proofs.laws.runs_take_the_footprint.Goals as goal
 
 pub returns : goal.returns

@@ -1,9 +1,8 @@
 use Rattle.std.proofs.Common.{[], ap, subst}
-use Rattle.c11_macros.proofs.OneAnswer.{one}
-use Rattle.c11_macros.specs.Trace.{Agree}
+use Rattle.sc_expand.proofs.Facts.{one}
 use Rattle.sc_expand.proofs.PlainAgreement.{agrees-start, leads-agrees}
+use Rattle.sc_expand.proofs.Terms.{Agree, scanning}
 use Rattle.sc_expand.proofs.laws.steps_depend_on_the_names_looked_up.Goals as goal
-use Rattle.sc_expand.specs.Plain.{scanning}
 
 pub returns : goal.returns
 returns g c = λ provenance macros other names within list r d agree s leads.

@@ -1,7 +1,7 @@
 use Rattle.std.proofs.Common.{[]}
 use Rattle.sc_expand.proofs.PlainReaches.{reaches-end, reaches-fail, reaches-leads, reaches-start}
+use Rattle.sc_expand.proofs.Terms.{scanning}
 use Rattle.sc_expand.proofs.laws.steps_give_the_expansion.Goals as goal
-use Rattle.sc_expand.specs.Plain.{scanning}
 
 pub returns-clause-list : goal.returns-clause-list
 returns-clause-list g c = λ provenance macros list out leads. reaches-end provenance macros list out (reaches-leads provenance macros list (scanning [] list) (scanning out []) (reaches-start provenance macros list) leads)

@@ -1,6 +1,6 @@
 use Rattle.std.proofs.Common.{[]}
 use Rattle.sc_expand.proofs.PlainSettles.{opens-end, opens-fail, opens-leads, opens-start, opens-wait}
-use Rattle.sc_expand.specs.Plain.{scanning}
+use Rattle.sc_expand.proofs.Terms.{scanning}
 use Rattle.sc_expand.proofs.laws.steps_settle_the_list.Goals as goal
 
 pub returns-clause-whole : goal.returns-clause-whole

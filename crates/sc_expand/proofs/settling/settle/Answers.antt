@@ -1,22 +1,9 @@
-use Rattle.std.proofs.Common.{ap, length, subst, sym, ◌∙◌}
-use Rattle.sc_base.specs.declared.id.Cond.{Cond}
-use Rattle.sc_expand.proofs.SettlingLemmas.{begun-alike, begun-held, settled-alike, settled-held, settled-is}
-use Rattle.sc_expand.specs.Alike.{DefineAlike}
-use Rattle.sc_expand.specs.declared.expansion.Expansion.{Expansion}
-use Rattle.sc_expand.specs.Running.{IsUntouched}
-use Rattle.sc_expand.specs.Seen.{AreHeld, provenance_of, seen_at, stores}
-use Rattle.sc_expand.specs.Settling.{IsHeldSettled, IsSettled}
-use Rattle.sc_model.specs.Growth.{Extends}
-use Rattle.sc_model.specs.Sets.{IsCond}
-use Rattle.sc_table.specs.Table.{macros_at}
+use Rattle.std.proofs.Common.{ap, length, subst, sym, ◌∙◌, ℕ, List, map}
 use Rattle.sc_expand.proofs.Ending.{bared}
+use Rattle.sc_expand.proofs.SettlingLemmas.{begun-alike, begun-held, settled-alike, settled-held, settled-is}
 use Rattle.sc_expand.proofs.TakingParts.{none-found}
+use Rattle.sc_expand.proofs.Terms.{AreHeld, Cond, DefineAlike, Expansion, Extends, IsCond, IsConfig, IsHeldSettled, IsSettled, IsUntouched, Refusals, items_at, macros_at, provenance_of, seen_at, seen_hidden, stores}
 use Rattle.sc_expand.proofs.UnchangedAnswers.{looks-given, settled-unchanged}
-use Rattle.sc_expand.specs.declared.refusals.Refusals.{Refusals}
-use Rattle.sc_guarded.specs.Items.{items_at}
-use Rattle.sc_model.specs.Sets.{IsConfig}
-use Rattle.sc_subst.specs.Seen.{seen_hidden}
-use Rattle.std.proofs.Common.{ℕ, List, map}
 use Rattle.sc_expand.proofs.settling.settle.Goals as goal
 
 pub run-ran-requires-clause-held : goal.run-ran-requires-clause-held

@@ -1,6 +1,6 @@
 use Rattle.std.proofs.Common.{ap, arith, map, ◌∙◌}
-use Rattle.std.proofs.lemmas.List.{take_all}
 use Rattle.sc_expand.proofs.Ending.{bared, finished-next}
+use Rattle.sc_expand.proofs.Facts.{take_all}
 use Rattle.sc_expand.proofs.settling.without_hide_sets.Goals as goal
 
 pub loop-index-preserved : goal.loop-index-preserved

@@ -1,10 +1,7 @@
 use Rattle.std.proofs.Common.{◌&&◌, not, ap, sym, ◌∙◌}
-use Rattle.c11_tokens.specs.Lex.{is_identifier_kind}
 use Rattle.sc_expand.proofs.TakingLemmas.{same_test}
+use Rattle.sc_expand.proofs.Terms.{is_identifier_kind, set_at, text_of, texts_in}
 use Rattle.sc_expand.proofs.taking.is_looked_up.Goals.{in-Identifier, in_default}
-use Rattle.sc_macro.specs.Seen.{text_of}
-use Rattle.sc_subst.specs.Hides.{set_at}
-use Rattle.sc_subst.specs.Seen.{texts_in}
 use Rattle.sc_expand.proofs.taking.is_looked_up.Goals as goal
 
 pub returns-then-matches : goal.returns-then-matches

@@ -1,15 +1,9 @@
 use Rattle.std.proofs.Common.{rules, ◌∙◌, map, Ok, Err, refl, ap}
 use Rattle.std.specs.Cow.{cow_slice_items}
-use Rattle.c11_macros.specs.Hidden.{failure_at}
-use Rattle.sc_base.proofs.Growth.{Extends-refl, Extends-trans}
-use Rattle.sc_base.specs.Seen.{seen_place}
+use Rattle.sc_expand.proofs.Facts.{Extends-refl, Extends-trans, if_err, if_ok, on_fault}
 use Rattle.sc_expand.proofs.Placing.{placed-result}
 use Rattle.sc_expand.proofs.TakingLemmas.{grown-form, grown-hide, grown-list, same-result}
-use Rattle.sc_expand.specs.Seen.{provenance_of}
-use Rattle.sc_macro.specs.Seen.{seen_form, seen_item}
-use Rattle.sc_subst.proofs.Store.{if_err, if_ok}
-use Rattle.sc_subst.proofs.Turns.{on_fault}
-use Rattle.sc_subst.specs.Seen.{hide_at, seen_hidden}
+use Rattle.sc_expand.proofs.Terms.{failure_at, hide_at, provenance_of, seen_form, seen_hidden, seen_item, seen_place}
 use Rattle.sc_expand.proofs.taking.list_for.Goals as goal
 
 pub returns : goal.returns

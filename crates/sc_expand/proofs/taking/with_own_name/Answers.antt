@@ -1,6 +1,6 @@
+use Rattle.sc_expand.proofs.Facts.{both_ok}
 use Rattle.sc_expand.proofs.TakingLemmas.{held_with}
-use Rattle.sc_subst.specs.Hides.{set_at}
-use Rattle.sc_subst.proofs.Store.{both_ok}
+use Rattle.sc_expand.proofs.Terms.{set_at}
 use Rattle.sc_expand.proofs.taking.with_own_name.Goals as goal
 
 pub returns-clause-own : goal.returns-clause-own

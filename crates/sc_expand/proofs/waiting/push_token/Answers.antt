@@ -1,5 +1,5 @@
 use Rattle.std.proofs.Common.{◌∙◌, true≢false, refl, sym}
-use Rattle.sc_expand.specs.Unchanged.{absent, pushed}
+use Rattle.sc_expand.proofs.Terms.{absent, pushed}
 use Rattle.sc_expand.proofs.waiting.push_token.Goals as goal
 
 pub returns-then-is_never : goal.returns-then-is_never

@@ -1,15 +1,10 @@
-use Rattle.std.proofs.Common.{◌≡◌, ◌<◌, ◌≤◌, ◌+◌, ◌-◌, ◌∙◌, ◌++◌, List, All, length, map, ap, refl, sym, subst, arith}
-use Rattle.std.proofs.Common.{Global}
+use Rattle.std.proofs.Common.{Global, ◌≡◌, ◌<◌, ◌≤◌, ◌+◌, ◌-◌, ◌∙◌, ◌++◌, List, All, length, map, ap, refl, sym, subst, arith}
 use Rattle.std.specs.declared.collections.VecDeque.{VecDeque}
-use Rattle.std.proofs.lemmas.List.{length-append, length-set}
-use Rattle.sc_base.specs.declared.id.Cond.{Cond}
+use Rattle.sc_expand.proofs.Facts.{Denotes-self, Keeps-refl, Keeps-trans, length-append, length-set}
 use Rattle.sc_expand.proofs.RestrictLemmas.{keeps-items, length-Restricted, ord_min-min, own_behind, restricted_behind, front_own, restricted_front, restricted_none, restricts}
+use Rattle.sc_expand.proofs.Terms.{Cond, Hidden, IsCond, items_of}
 use Rattle.sc_expand.proofs.WorkListLemmas.{Restricted}
-use Rattle.sc_expand.specs.WorkLists.{items_of}
 use Rattle.sc_expand.specs.declared.source.Rest.{Rest}
-use Rattle.sc_model.proofs.SetLemmas.{Denotes-self, Keeps-refl, Keeps-trans}
-use Rattle.sc_model.specs.Sets.{IsCond}
-use Rattle.sc_subst.specs.declared.hidden.Hidden.{Hidden}
 use Rattle.sc_expand.proofs.work_list.restrict_argument.Goals as goal
 use Rattle.sc_expand.proofs.work_list.restrict_argument.Goals.{then-count-len+in_ok-settle, else-count-len}
 

@@ -1,6 +1,6 @@
 use Rattle.std.proofs.Common.{◌≡◌, ◌<◌, ◌++◌, length}
+use Rattle.sc_expand.proofs.Terms.{items_of}
 use Rattle.sc_expand.proofs.WorkListLemmas.{Restricted}
-use Rattle.sc_expand.specs.WorkLists.{items_of}
 use Rattle.sc_expand.proofs.work_list.restrict_argument.Given as goal
 
 abbrev pub invariant-loop-index : goal.invariant-loop-index

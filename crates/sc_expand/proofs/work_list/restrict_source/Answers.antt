@@ -1,12 +1,8 @@
 use Rattle.std.proofs.Common.{◌≡◌, ◌<◌, ◌+◌, ◌-◌, ◌∙◌, ◌++◌, List, drop, length, ap, get_or, refl, sym, subst, arith}
-use Rattle.std.proofs.lemmas.List.{drop-set-add, get_or-append_right, get_or-drop, length-set, set-append_right}
-use Rattle.sc_base.specs.declared.id.Cond.{Cond}
+use Rattle.sc_expand.proofs.Facts.{Keeps-refl, drop-set-add, get_or-append_right, get_or-drop, length-set, set-append_right}
 use Rattle.sc_expand.proofs.RestrictLemmas.{front_own, keeps-items, length-Restricted, ord_min-min, restricted_front, restricted_next, restricted_none, restricts}
+use Rattle.sc_expand.proofs.Terms.{Cond, Hidden, IsCond, items_left}
 use Rattle.sc_expand.proofs.WorkListLemmas.{Restricted}
-use Rattle.sc_expand.specs.WorkLists.{items_left}
-use Rattle.sc_model.proofs.SetLemmas.{Keeps-refl}
-use Rattle.sc_model.specs.Sets.{IsCond}
-use Rattle.sc_subst.specs.declared.hidden.Hidden.{Hidden}
 use Rattle.sc_expand.proofs.work_list.restrict_source.Goals as goal
 
 pub loop-index-init : goal.loop-index-init

@@ -1,10 +1,8 @@
 use Rattle.std.proofs.Common.{◌≡◌, ◌++◌, ◌∙◌, List, map, ap, sym, arith}
-use Rattle.sc_base.specs.declared.id.Cond.{Cond}
 use Rattle.sc_expand.proofs.RestrictLemmas.{first_moved, items_of-empty, items_of-unrestricted}
-use Rattle.sc_expand.specs.WorkLists.{items_of}
+use Rattle.sc_expand.proofs.Terms.{Cond, Hidden, items_of}
 use Rattle.sc_expand.proofs.work_list.settle.Goals as goal
 use Rattle.sc_expand.proofs.work_list.settle.Goals.{then-loop-rest-test+else-len-gt0, else-loop-rest-test}
-use Rattle.sc_subst.specs.declared.hidden.Hidden.{Hidden}
 
 pub loop-rest-preserved : goal.loop-rest-preserved
 loop-rest-preserved c =

@@ -1,5 +1,5 @@
 use Rattle.std.proofs.Common.{◌≡◌, ◌++◌}
-use Rattle.sc_expand.specs.WorkLists.{items_of}
+use Rattle.sc_expand.proofs.Terms.{items_of}
 use Rattle.sc_expand.proofs.work_list.settle.Given as goal
 
 abbrev pub invariant-loop-rest : goal.invariant-loop-rest

@@ -1,10 +1,7 @@
 use Rattle.std.proofs.Common.{◌∙◌, ◌+◌, ap, drop, get_or}
-use Rattle.std.proofs.lemmas.List.{drop_more}
-use Rattle.std.proofs.lemmas.Option.{slice_get-get_or}
+use Rattle.sc_expand.proofs.Facts.{blank, drop_more, slice_get-get_or}
 use Rattle.sc_expand.proofs.PartingGroups.{group_parted}
-use Rattle.sc_expand.specs.Parting.{parted_with}
-use Rattle.sc_subst.proofs.Quoting.{blank}
-use Rattle.sc_subst.specs.Parts.{seen_list}
+use Rattle.sc_expand.proofs.Terms.{parted_with, seen_list}
 use Rattle.sc_expand.proofs.arguments.Parting.go_on.Goals as goal
 
 pub returns-in-Some-clause-is : goal.returns-in-Some-clause-is

@@ -1,13 +1,8 @@
 use Rattle.std.proofs.Common.{◌≡◌, ◌∙◌, ◌++◌, ◌∷◌, [], ◌-◌, ◌+◌, All, IsTrue, drop, take, sym, ap, subst, refl}
-use Rattle.std.proofs.lemmas.List.Elements.{All-drop, All-push, All-take}
-use Rattle.c11_macros.specs.Call.{Role, role_of}
+use Rattle.sc_expand.proofs.Facts.{All-drop, All-push, All-take}
 use Rattle.sc_expand.proofs.Parting.{between-drop_take, drop_take-more, drop_take-none, parted_apart, parted_onto, seen_arguments-push, seen_list-push}
-use Rattle.sc_expand.specs.Arguments.{IsParting, begun_with, parted}
+use Rattle.sc_expand.proofs.Terms.{Hidden, IsHeldHidden, IsParting, Role, begun_with, parted, parted_with, role_of, seen_arguments, seen_hidden, seen_list}
 use Rattle.sc_expand.specs.Arguments as model
-use Rattle.sc_expand.specs.Parting.{parted_with}
-use Rattle.sc_subst.specs.declared.hidden.Hidden.{Hidden}
-use Rattle.sc_subst.specs.Parts.{seen_arguments, seen_list}
-use Rattle.sc_subst.specs.Seen.{IsHeldHidden, seen_hidden}
 use Rattle.sc_expand.proofs.arguments.Parting.take.Goals as goal
 
 pub returns-in_ok-push-clause-is : goal.returns-in_ok-push-clause-is

@@ -1,23 +1,13 @@
 use Rattle.std.proofs.Common.{All, map, refl, sym, ap, subst, ◌∙◌}
-use Rattle.std.proofs.lemmas.List.Elements.{All-push}
-use Rattle.c11_macros.specs.Hidden.{failure_at}
-use Rattle.c11_macros.specs.Macros.{Form}
-use Rattle.c11_macros.specs.Substitution.{list_slots}
 use Rattle.sc_expand.proofs.AlikeGathering.{begun-alike}
 use Rattle.sc_expand.proofs.BeginningLemmas.{in_none, in_some, is_gathered, is_template}
+use Rattle.sc_expand.proofs.Facts.{All-push, Keeps-refl}
 use Rattle.sc_expand.proofs.GatherSteps.{pushed-at, pushed-held, pushed-other, refused-alike, refused-ends, refused-held, refused-live, refused-other}
 use Rattle.sc_expand.proofs.SeenLemmas.{IsHeldExpansion-Grows}
 use Rattle.sc_expand.proofs.TakingSteps.{on-ok}
-use Rattle.sc_expand.specs.Alike.{IsAlikeCall}
+use Rattle.sc_expand.proofs.Terms.{BadStringize, Call, Form, Grows, IsAlikeCall, failure_at, list_slots, seen_arguments, seen_hidden, seen_item, seen_template, stores}
 use Rattle.sc_expand.specs.Beginning as beginning
 use Rattle.sc_expand.specs.Called.{refused, waits}
-use Rattle.sc_expand.specs.declared.call.Call.{Call}
-use Rattle.sc_expand.specs.Seen.{Grows, seen_template, stores}
-use Rattle.sc_macro.specs.Seen.{seen_item}
-use Rattle.sc_model.proofs.SetLemmas.{Keeps-refl}
-use Rattle.sc_model.specs.declared.cause.Cause.TheVariants.{BadStringize}
-use Rattle.sc_subst.specs.Parts.{seen_arguments}
-use Rattle.sc_subst.specs.Seen.{seen_hidden}
 use Rattle.sc_expand.proofs.expansion.Expansion.begin.Goals as goal
 
 pub returns-in_ok-push-in-Some-clause-begun : goal.returns-in_ok-push-in-Some-clause-begun

@@ -1,5 +1,5 @@
 use Rattle.std.proofs.Common.{ap, drop, ◌∙◌}
-use Rattle.sc_expand.specs.declared.expansion.Expansion.{Expansion}
+use Rattle.sc_expand.proofs.Terms.{Expansion}
 use Rattle.sc_expand.proofs.expansion.Expansion.drop_first.Goals as goal
 
 pub returns-clause-drops : goal.returns-clause-drops

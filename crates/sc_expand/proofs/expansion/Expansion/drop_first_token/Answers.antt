@@ -1,16 +1,10 @@
 use Rattle.std.proofs.Common.{◌∷◌, ap, arith, length, subst, sum_by, sym, ◌∙◌}
-use Rattle.sc_base.proofs.Growth.{Extends-refl}
-use Rattle.sc_base.specs.declared.id.Cond.{Cond}
 use Rattle.sc_expand.proofs.AlikeLemmas.{All-at}
+use Rattle.sc_expand.proofs.Facts.{Denotes-Keeps, Denotes-self, Extends-refl, Keeps-trans}
 use Rattle.sc_expand.proofs.Rests.{first-is, never-Keeps, never-at, rested-Grows, rested-then, rested-token, rested-tokens}
-use Rattle.sc_expand.proofs.WaitingLemmas.{below-some, kept-later}
-use Rattle.sc_expand.specs.Machine.{is_whole}
 use Rattle.sc_expand.proofs.SeenLemmas.{Grows-refl}
-use Rattle.sc_expand.specs.Running.{IsRested, frame_weight}
-use Rattle.sc_expand.specs.Seen.{Grows, stores}
-use Rattle.sc_model.proofs.SetLemmas.{Denotes-self, Denotes-Keeps, Keeps-trans}
-use Rattle.sc_model.specs.Sets.{IsCond}
-use Rattle.sc_subst.specs.declared.hidden.Hidden.{Hidden}
+use Rattle.sc_expand.proofs.Terms.{Cond, Grows, Hidden, IsCond, IsRested, frame_weight, is_whole, stores}
+use Rattle.sc_expand.proofs.WaitingLemmas.{below-some, kept-later}
 use Rattle.sc_expand.proofs.expansion.Expansion.drop_first_token.Goals as goal
 
 pub returns-in-None-clause-rested : goal.returns-in-None-clause-rested

@@ -1,10 +1,8 @@
 use Rattle.std.proofs.Common.{true≢false, sym, subst, ◌∙◌}
-use Rattle.sc_base.proofs.Growth.{Extends-refl}
+use Rattle.sc_expand.proofs.Facts.{Denotes-Keeps, Denotes-self, Extends-refl, Keeps-trans}
 use Rattle.sc_expand.proofs.Rests.{never-next, next-own, ready-some, dropped-later, never-Keeps, rested-dropped, rested-Grows, rested-then}
 use Rattle.sc_expand.proofs.SeenLemmas.{Grows-refl, IsHeldExpansion-Grows}
-use Rattle.sc_expand.specs.Running.{IsRested}
-use Rattle.sc_expand.specs.Seen.{Grows, stores}
-use Rattle.sc_model.proofs.SetLemmas.{Denotes-self, Denotes-Keeps, Keeps-trans}
+use Rattle.sc_expand.proofs.Terms.{Grows, IsRested, stores}
 use Rattle.sc_expand.proofs.expansion.Expansion.drop_one.Goals as goal
 
 pub returns-in-None-clause-rested : goal.returns-in-None-clause-rested

@@ -1,8 +1,8 @@
 use Rattle.std.proofs.Common.{refl, ◌∙◌}
+use Rattle.sc_expand.proofs.Facts.{Keeps-refl, Keeps-trans}
 use Rattle.sc_expand.proofs.Rests.{rested-Grows, rested-then}
 use Rattle.sc_expand.proofs.SeenLemmas.{Grows-refl}
-use Rattle.sc_expand.specs.Seen.{stores}
-use Rattle.sc_model.proofs.SetLemmas.{Keeps-refl, Keeps-trans}
+use Rattle.sc_expand.proofs.Terms.{stores}
 use Rattle.sc_expand.proofs.expansion.Expansion.drop_refused.Goals as goal
 
 pub loop-first-init : goal.loop-first-init

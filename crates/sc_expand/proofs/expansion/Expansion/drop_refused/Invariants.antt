@@ -1,7 +1,5 @@
 use Rattle.std.proofs.Common.{◌≡◌, ℕ, List}
-use Rattle.sc_expand.specs.Running.{IsRested, weight}
-use Rattle.sc_expand.specs.Seen.{stores}
-use Rattle.sc_model.specs.Sets.{Keeps}
+use Rattle.sc_expand.proofs.Terms.{IsRested, Keeps, stores, weight}
 use Rattle.sc_expand.proofs.expansion.Expansion.drop_refused.Given as goal
 
 abbrev pub invariant-loop-first : goal.invariant-loop-first

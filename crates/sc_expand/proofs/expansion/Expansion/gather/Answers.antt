@@ -1,20 +1,9 @@
 use Rattle.std.proofs.Common.{◌<◌, ◌∙◌, ap, length, rules, subst}
-use Rattle.std.proofs.lemmas.List.Elements.{All-map}
-use Rattle.std.proofs.lemmas.Result.{err_from_is_err_and}
-use Rattle.c11_macros.specs.Hidden.{failure_at}
-use Rattle.sc_base.specs.declared.id.Cond.{Cond}
-use Rattle.sc_base.specs.declared.token.Token.{Token}
+use Rattle.sc_expand.proofs.Facts.{All-map, Keeps-trans, err_from_is_err_and}
 use Rattle.sc_expand.proofs.GatherEnds.{stops-at}
 use Rattle.sc_expand.proofs.GatherParts.{are-branches, is-gathered, one-at-most, parted-by, parted-held}
 use Rattle.sc_expand.proofs.GatherTaking.{head-held}
-use Rattle.sc_expand.specs.Machine.{is_whole}
-use Rattle.sc_expand.specs.Refusing.{LeavesOpen}
-use Rattle.sc_expand.specs.Seen.{IsHeldToken, stores}
-use Rattle.sc_model.proofs.SetLemmas.{Keeps-trans}
-use Rattle.sc_model.specs.declared.cause.Cause.TheVariants.{UnterminatedCall}
-use Rattle.sc_model.specs.Sets.{IsCond}
-use Rattle.sc_subst.specs.declared.hidden.Hidden.{Hidden}
-use Rattle.sc_subst.specs.Seen.{seen_hidden}
+use Rattle.sc_expand.proofs.Terms.{Cond, Hidden, IsCond, IsHeldToken, LeavesOpen, Token, UnterminatedCall, failure_at, is_whole, seen_hidden, stores}
 use Rattle.sc_expand.proofs.expansion.Expansion.gather.Goals as goal
 
 pub first_calls-requires-clause-own : goal.first_calls-requires-clause-own

@@ -1,25 +1,12 @@
 use Rattle.std.proofs.Common.{◌≡◌, ℕ, List, All, Some, None, length, refl, sym, ap, subst, ◌∙◌, is_some, Option}
-use Rattle.std.proofs.lemmas.List.Elements.{All-head, All-tail}
-use Rattle.std.specs.Option.{option_map}
-use Rattle.c11_macros.specs.Call.{arguments_for}
-use Rattle.c11_macros.specs.Macros.{Rest, function_like}
-use Rattle.sc_base.proofs.Growth.{Extends-refl}
-use Rattle.sc_base.specs.declared.id.Name.{Name}
 use Rattle.sc_expand.proofs.BeginningLemmas.{in_some}
+use Rattle.sc_expand.proofs.Facts.{All-head, All-tail, Extends-refl, Keeps-trans}
 use Rattle.sc_expand.proofs.GatherFiles.{arguments-held}
 use Rattle.sc_expand.proofs.GatherSteps.{refused-alike, refused-ends, refused-held, refused-live, refused-other}
 use Rattle.sc_expand.proofs.GatherTaking.{begun-gathered, function-form, head-held, left-grows, left-held, misfit-gathered, seen_fit}
 use Rattle.sc_expand.proofs.SeenLemmas.{token-Grows}
 use Rattle.sc_expand.proofs.TakingSteps.{on-ok}
-use Rattle.sc_expand.specs.Arguments.{parted}
-use Rattle.sc_expand.specs.Called.{HasBegun}
-use Rattle.sc_expand.specs.Machine.{IsHeldExpansion}
-use Rattle.sc_expand.specs.Seen.{Grows, IsHeldToken, stores}
-use Rattle.sc_macro.specs.Seen.{seen_form}
-use Rattle.sc_model.proofs.SetLemmas.{Keeps-trans}
-use Rattle.sc_subst.specs.declared.hidden.Hidden.{Hidden}
-use Rattle.sc_subst.specs.Parts.{seen_arguments, seen_list}
-use Rattle.sc_subst.specs.Seen.{IsHeldHidden}
+use Rattle.sc_expand.proofs.Terms.{Grows, HasBegun, Hidden, IsHeldExpansion, IsHeldHidden, IsHeldToken, Name, Rest, arguments_for, function_like, option_map, parted, seen_arguments, seen_form, seen_list, stores}
 use Rattle.sc_expand.proofs.expansion.Expansion.gather_call.Goals as goal
 
 pub arguments-requires : goal.arguments-requires

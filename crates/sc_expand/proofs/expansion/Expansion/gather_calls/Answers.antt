@@ -1,10 +1,9 @@
 use Rattle.std.proofs.Common.{sym, subst}
+use Rattle.sc_expand.proofs.Facts.{Keeps-trans}
 use Rattle.sc_expand.proofs.GatherBranches.{branch-later, gathered-more, gathered-none}
 use Rattle.sc_expand.proofs.GatherTaking.{head-held}
 use Rattle.sc_expand.proofs.SeenLemmas.{Grows-refl, Grows-trans}
-use Rattle.sc_expand.specs.Called.{IsBranch}
-use Rattle.sc_expand.specs.Seen.{Grows, IsHeldToken, stores}
-use Rattle.sc_model.proofs.SetLemmas.{Keeps-trans}
+use Rattle.sc_expand.proofs.Terms.{Grows, IsBranch, IsHeldToken, stores}
 use Rattle.sc_expand.proofs.expansion.Expansion.gather_calls.Goals as goal
 
 pub loop-branch-init : goal.loop-branch-init

@@ -1,6 +1,5 @@
 use Rattle.std.proofs.Common.{take}
-use Rattle.sc_expand.specs.Called.{AreGathered}
-use Rattle.sc_expand.specs.Seen.{Grows, stores}
+use Rattle.sc_expand.proofs.Terms.{AreGathered, Grows, stores}
 use Rattle.sc_expand.proofs.expansion.Expansion.gather_calls.Given as goal
 
 abbrev pub invariant-loop-branch : goal.invariant-loop-branch

@@ -1,21 +1,14 @@
 use Rattle.std.proofs.Common.{◌≡◌, ◌&&◌, append-nil, ◌++◌, All, Some, None, option_to_list, length, reverse, map, refl, sym, ap, subst, ◌∙◌, arith, if◌then◌else◌}
-use Rattle.std.proofs.Math.Bool.{and-true}
-use Rattle.std.proofs.lemmas.Bool.{and_parts}
-use Rattle.std.proofs.lemmas.List.Elements.{All-pop}
-use Rattle.sc_base.proofs.Growth.{Extends-refl}
-use Rattle.sc_expand.proofs.WaitingLemmas.{left-Grows, same-left}
 use Rattle.sc_expand.proofs.AlikeFilling.{alike-enter, alike-narrowed}
 use Rattle.sc_expand.proofs.AlikeLemmas.{IsAlikeExpansion-Keeps}
 use Rattle.sc_expand.proofs.BottomLemmas.{bottom-held, bottom-less, more-Keeps, more-none}
+use Rattle.sc_expand.proofs.Facts.{All-pop, Denotes-self, Extends-refl, IsConfig-Keeps, IsConfig-kept, Keeps-trans, and-true, and_parts}
 use Rattle.sc_expand.proofs.MachineGoesOn.{entered-held, entered-progress, later-held, replaced-progress}
 use Rattle.sc_expand.proofs.Rests.{put-same}
 use Rattle.sc_expand.proofs.SeenLemmas.{IsHeldCall-Grows, IsHeldExpansion-Grows, calls_at-Grows, ends_at-Grows, view_at-Grows, waiting_at-Grows}
 use Rattle.sc_expand.proofs.TakingSteps.{on-ok}
-use Rattle.sc_expand.specs.declared.call.Wanted.{Wanted}
-use Rattle.sc_expand.specs.Machine.{Progress, at, at_call, with_call}
-use Rattle.sc_expand.specs.Running.{GoesOn, bottom, bottom_by, put_by}
-use Rattle.sc_expand.specs.Seen.{Grows, IsHeldToken, provenance_of, seen_wanted, stores, waiting_at}
-use Rattle.sc_model.proofs.SetLemmas.{Denotes-self, IsConfig-Keeps, IsConfig-kept, Keeps-trans}
+use Rattle.sc_expand.proofs.Terms.{GoesOn, Grows, IsHeldToken, Progress, Wanted, at, at_call, bottom, bottom_by, provenance_of, put_by, seen_wanted, stores, waiting_at, with_call}
+use Rattle.sc_expand.proofs.WaitingLemmas.{left-Grows, same-left}
 use Rattle.sc_expand.proofs.expansion.Expansion.go_on.Goals as goal
 
 pub returns-in-Some-clause-gone_on : goal.returns-in-Some-clause-gone_on

@@ -1,13 +1,10 @@
 use Rattle.std.proofs.Common.{ap, refl, sym, ◌∙◌}
-use Rattle.sc_base.specs.declared.id.Cond.{Cond}
 use Rattle.sc_expand.proofs.AlikeLemmas.{All-at}
 use Rattle.sc_expand.proofs.Dropping.{no-first, not-some}
+use Rattle.sc_expand.proofs.Facts.{Denotes-self}
+use Rattle.sc_expand.proofs.Terms.{Cond, Hidden, IsCond, is_whole}
 use Rattle.sc_expand.proofs.WaitingLemmas.{below-none, below-some}
-use Rattle.sc_expand.specs.Machine.{is_whole}
 use Rattle.sc_expand.specs.Waiting.{kept, none}
-use Rattle.sc_model.proofs.SetLemmas.{Denotes-self}
-use Rattle.sc_model.specs.Sets.{IsCond}
-use Rattle.sc_subst.specs.declared.hidden.Hidden.{Hidden}
 use Rattle.sc_expand.proofs.expansion.Expansion.keep_first.Goals as goal
 
 pub returns-in_ok-push_token-clause-keeps_first : goal.returns-in_ok-push_token-clause-keeps_first

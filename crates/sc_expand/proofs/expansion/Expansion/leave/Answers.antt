@@ -1,5 +1,5 @@
 use Rattle.std.proofs.Common.{◌≡◌, ◌++◌, ◌∷◌, [], slice_set, refl, ap, ◌∙◌}
-use Rattle.sc_expand.specs.declared.frame.Frame.{Frame}
+use Rattle.sc_expand.proofs.Terms.{Frame}
 use Rattle.sc_expand.proofs.expansion.Expansion.leave.Goals as goal
 
 pub returns-clause-calls : goal.returns-clause-calls

@@ -1,15 +1,12 @@
 use Rattle.std.proofs.Common.{◌∙◌, ◌++◌, refl, map, ap, sym, subst, append-nil, length}
-use Rattle.c11_macros.specs.Hidden.{failure_at}
+use Rattle.sc_expand.proofs.AlikeLemmas.{AreAlike-Keeps}
+use Rattle.sc_expand.proofs.AlikeTaking.{alike-append, alike-under}
+use Rattle.sc_expand.proofs.Facts.{Keeps-refl}
 use Rattle.sc_expand.proofs.GatherSteps.{refused-alike, refused-ends, refused-held, refused-live, refused-other}
 use Rattle.sc_expand.proofs.SeenLemmas.{AreHeld-Grows, AreHeld-append, IsHeldExpansion-Grows, at-Grows, seen_at-Grows, seen_at-append}
 use Rattle.sc_expand.proofs.TakingLemmas.{AreHeld-under, file-placed, seen-under}
-use Rattle.sc_expand.specs.Seen.{AreHeld, Grows, seen_at, stores}
+use Rattle.sc_expand.proofs.Terms.{AreAlike, AreHeld, Grows, failure_at, seen_at, seen_hidden, stores}
 use Rattle.sc_expand.specs.Taking.{put_in, refused}
-use Rattle.sc_model.proofs.SetLemmas.{Keeps-refl}
-use Rattle.sc_subst.specs.Seen.{seen_hidden}
-use Rattle.sc_expand.proofs.AlikeLemmas.{AreAlike-Keeps}
-use Rattle.sc_expand.proofs.AlikeTaking.{alike-append, alike-under}
-use Rattle.sc_hoist.specs.Alike.{AreAlike}
 use Rattle.sc_expand.proofs.expansion.Expansion.put_object.Goals as goal
 
 pub returns-in_ok-put_under-in-Ok : goal.returns-in_ok-put_under-in-Ok

@@ -1,5 +1,5 @@
 use Rattle.std.proofs.Common.{◌++◌, ap, subst, ◌∙◌}
-use Rattle.sc_expand.specs.Unchanged.{IsPushed}
+use Rattle.sc_expand.proofs.Terms.{IsPushed}
 use Rattle.sc_expand.proofs.expansion.Expansion.put_out.Goals as goal
 
 pub returns-clause-put : goal.returns-clause-put

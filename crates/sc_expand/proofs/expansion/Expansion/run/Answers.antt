@@ -1,13 +1,11 @@
 use Rattle.std.proofs.Common.{rules, length, sym, subst}
 use Rattle.sc_expand.proofs.BetweenTurns.{turns-less, turns-rested, turns-start, turns-stop, turns-taken}
+use Rattle.sc_expand.proofs.Facts.{Keeps-trans}
 use Rattle.sc_expand.proofs.PhaseSegments.{run-segments}
 use Rattle.sc_expand.proofs.PlainTables.{entry_names, within-table}
 use Rattle.sc_expand.proofs.RunLemmas.{less-le, rested-le, running-done, running-is, running-out, running-unchanged}
 use Rattle.sc_expand.proofs.SeenLemmas.{Grows-trans, IsTable-Grows}
-use Rattle.sc_expand.specs.Seen.{stores}
-use Rattle.sc_model.proofs.SetLemmas.{Keeps-trans}
-use Rattle.sc_model.specs.Growth.{Extends}
-use Rattle.sc_table.specs.Table.{macros_at}
+use Rattle.sc_expand.proofs.Terms.{Extends, macros_at, stores}
 use Rattle.sc_expand.proofs.expansion.Expansion.run.Goals as goal
 
 pub loop-self-init : goal.loop-self-init

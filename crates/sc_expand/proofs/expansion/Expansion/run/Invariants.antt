@@ -1,8 +1,7 @@
 use Rattle.sc_expand.proofs.BetweenTurns.{IsBetweenTurns}
 use Rattle.sc_expand.proofs.PlainTables.{entry_names, within-table}
 use Rattle.sc_expand.proofs.RunLemmas.{steps_in}
-use Rattle.sc_expand.specs.Seen.{stores}
-use Rattle.sc_table.specs.Table.{macros_at}
+use Rattle.sc_expand.proofs.Terms.{macros_at, stores}
 use Rattle.sc_expand.proofs.expansion.Expansion.run.Given as goal
 
 abbrev pub invariant-loop-self : goal.invariant-loop-self

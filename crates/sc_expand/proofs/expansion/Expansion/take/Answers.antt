@@ -1,42 +1,20 @@
-use Rattle.std.proofs.Common.{◌≡◌, ◌∙◌, ◌≤◌, ◌++◌, ℕ, suc, true, All, List, Some, ap, arith, drop, length, sym, subst, ◌&&◌, refl}
-use Rattle.std.proofs.lemmas.Result.{err_from_is_err_and}
-use Rattle.std.specs.Prelude.{slice_get}
-use Rattle.c11_macros.specs.Expansion.{is_looked_up}
-use Rattle.sc_base.specs.declared.id.Cond.{Cond}
-use Rattle.sc_expand.proofs.PuttingOut.{pushed-some, some-Keeps}
-use Rattle.sc_expand.proofs.SeenLemmas.{AreHeld-Grows, IsHeldExpansion-Grows, IsTable-Grows, token-Grows, macros_at-Grows, seen_hidden-Grows}
-use Rattle.sc_expand.proofs.TakingTurns.{first-both, first-grew, first-item, first-own, first-ready, first-taken, first-token, put-ends, put-held, refused-out, step-Grows, take-first, take-turn, take-waits}
-use Rattle.sc_expand.proofs.TakingSteps.{Ends}
-use Rattle.sc_expand.proofs.WaitingTaking.{first-of-all, put-out-alike, put-out-keeps, put-out-left, stays-later}
-use Rattle.sc_expand.specs.Running.{KeepsLeft}
-use Rattle.sc_expand.proofs.UnchangedTaking.{first-undefined, stays-both, take-passes}
-use Rattle.sc_expand.specs.declared.expansion.Expansion.{Expansion}
-use Rattle.sc_expand.specs.Machine.{IsHeldExpansion, at}
-use Rattle.sc_expand.specs.Seen.{Grows, provenance_of, seen_at, stores}
-use Rattle.sc_expand.specs.Taking.{HasPutOut}
-use Rattle.sc_expand.specs.Turn.{Turn}
-use Rattle.sc_expand.specs.Unchanged.{IsPushed}
-use Rattle.sc_model.proofs.SetLemmas.{IsConfig-Keeps, IsConfig-kept, Keeps-trans}
-use Rattle.sc_model.specs.Growth.{Extends}
-use Rattle.sc_hoist.specs.Alike.{AreAlike}
-use Rattle.sc_base.proofs.Growth.{Extends-refl}
-use Rattle.std.proofs.lemmas.List.Elements.{All-append, All-drop}
-use Rattle.sc_model.specs.Sets.{IsCond, IsConfig, IsNever}
-use Rattle.sc_subst.specs.declared.hidden.Hidden.{Hidden}
-use Rattle.sc_table.specs.Table.{macros_at}
+use Rattle.std.proofs.Common.{◌≡◌, ◌∙◌, ◌≤◌, ◌++◌, ℕ, suc, true, All, List, Some, ap, arith, drop, length, sym, subst, ◌&&◌, refl, slice_get}
 use Rattle.sc_expand.proofs.AlikeGathering.{each-same-call}
 use Rattle.sc_expand.proofs.AlikeLemmas.{AreAlike-Keeps, IsAlike-Keeps, alike-of, in-whole, whole, whole-in, IsAlikeExpansion-Keeps, IsAlikeIn-Keeps}
 use Rattle.sc_expand.proofs.AlikeTaking.{alike-first, put-alike, same-long, takes-name, whole-same}
+use Rattle.sc_expand.proofs.Facts.{All-append, All-drop, Extends-refl, IsConfig-Keeps, IsConfig-kept, Keeps-trans, err_from_is_err_and}
 use Rattle.sc_expand.proofs.LastLemmas.{last-earlier, last-later}
+use Rattle.sc_expand.proofs.PuttingOut.{pushed-some, some-Keeps}
 use Rattle.sc_expand.proofs.Rests.{some-same}
+use Rattle.sc_expand.proofs.SeenLemmas.{AreHeld-Grows, IsHeldExpansion-Grows, IsTable-Grows, token-Grows, macros_at-Grows, seen_hidden-Grows}
 use Rattle.sc_expand.proofs.StopsLemmas.{stops-earlier}
 use Rattle.sc_expand.proofs.TakenLemmas.{long-put, taken-put}
+use Rattle.sc_expand.proofs.TakingSteps.{Ends}
+use Rattle.sc_expand.proofs.TakingTurns.{first-both, first-grew, first-item, first-own, first-ready, first-taken, first-token, put-ends, put-held, refused-out, step-Grows, take-first, take-turn, take-waits}
+use Rattle.sc_expand.proofs.Terms.{AreAlike, CallNextAlike, Cond, DefineNextAlike, Enclosing, Expansion, Extends, Grows, HasLast, HasPutOut, Hidden, IsAlikeEnclosing, IsAlikeExpansion, IsAlikeTaken, IsCond, IsConfig, IsFirstIn, IsFunctionLike, IsHeldExpansion, IsNever, IsPushed, KeepsLeft, Others, Span, TakesName, Turn, at, is_looked_up, macros_at, no_others, others_at, provenance_of, seen_at, seen_hidden, stores, text_of}
+use Rattle.sc_expand.proofs.UnchangedTaking.{first-undefined, stays-both, take-passes}
+use Rattle.sc_expand.proofs.WaitingTaking.{first-of-all, put-out-alike, put-out-keeps, put-out-left, stays-later}
 use Rattle.sc_expand.proofs.WorkListLemmas.{has_each-Keeps}
-use Rattle.sc_expand.specs.Alike.{CallNextAlike, DefineNextAlike, IsAlikeEnclosing, IsAlikeExpansion, IsAlikeTaken, IsFirstIn, IsFunctionLike, Others, Span, TakesName, no_others, others_at}
-use Rattle.sc_expand.specs.declared.frame.Enclosing.{Enclosing}
-use Rattle.sc_expand.specs.Having.{HasLast}
-use Rattle.sc_macro.specs.Seen.{text_of}
-use Rattle.sc_subst.specs.Seen.{seen_hidden}
 use Rattle.sc_expand.proofs.expansion.Expansion.take.Goals as goal
 
 pub take_under-requires : goal.take_under-requires

@@ -1,16 +1,8 @@
 use Rattle.std.proofs.Common.{◌≡◌, ℕ, ◌+◌, ◌-◌, ◌<◌, Bool, true, false, List, refl, All, length, drop, take, map, sym, ap, subst, ◌∙◌, arith, if◌then◌else◌}
-use Rattle.std.proofs.lemmas.List.Elements.{All-cons, All-drop, All-take}
-use Rattle.c11_macros.specs.Hidden as model
-use Rattle.sc_base.specs.declared.place.Place.{Place}
 use Rattle.sc_expand.proofs.AlikeLemmas.{IsAlikeIn-Keeps}
+use Rattle.sc_expand.proofs.Facts.{All-cons, All-drop, All-take}
 use Rattle.sc_expand.proofs.GatherPlaces.{branch-placed, call-taken, held-at, held-same, held-tokens, places-below, places-three}
-use Rattle.sc_expand.specs.Beginning.{token_at}
-use Rattle.sc_expand.specs.Called.{HasLeft}
-use Rattle.sc_guarded.specs.Items.{items_at}
-use Rattle.sc_model.specs.Sets.{IsConfig}
-use Rattle.sc_subst.specs.declared.hidden.Hidden.{Hidden}
-use Rattle.sc_subst.specs.Seen.{seen_hidden}
-use Rattle.sc_expand.specs.Seen.{IsHeldToken, stores}
+use Rattle.sc_expand.proofs.Terms.{HasLeft, Hidden, HiddenToken, IsConfig, IsHeldToken, Place, items_at, seen_hidden, stores, token_at}
 use Rattle.sc_expand.proofs.expansion.Expansion.take_call.Goals as goal
 
 pub slice_bounds-between-count : goal.slice_bounds-between-count
@@ -65,7 +57,7 @@ returns g c =
     let value = c.deref.ensures.value in
     let count = c.len-last.result - 1 - 2 in
     let out = c.in_ok-take_out.ensures in
-    let see : List Hidden → List (model.Hidden Place) = map (seen_hidden st.names st.hides) in
+    let see : List Hidden → List (HiddenToken Place) = map (seen_hidden st.names st.hides) in
     let counted = c.len-last.ensures ∙ (sym c.deref.ensures.len ∙ ap length value) in
     let follows : (x : List ℕ) → IsConfig s.arities x → (b : Bool) → s.has branch.cond.0 x ≡ b
     → items_at (g.C.Conditions.sets c.take_out.new.conds) c.take_out.new.list x ≡ (if b then items_at s (drop (end + 1) list) x else items_at s list x) = λ x listed b is. out.taken x listed ∙ ap (λ b. if b then items_at s (drop (end + 1) list) x else items_at s list x) is in

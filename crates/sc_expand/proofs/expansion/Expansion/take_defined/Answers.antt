@@ -1,31 +1,15 @@
 use Rattle.std.proofs.Common.{◌≡◌, ◌∙◌, ◌||◌, ℕ, true, List, IsTrue, inl, inr, ap, map, sym}
-use Rattle.std.proofs.lemmas.Bool.{cases_Bool}
-use Rattle.std.proofs.lemmas.Result.{err_from_is_err_and}
-use Rattle.c11_macros.specs.Defines.{is_function_like}
-use Rattle.sc_base.proofs.Growth.{Extends-refl}
-use Rattle.sc_base.specs.declared.id.Cond.{Cond}
 use Rattle.sc_expand.proofs.AlikeLemmas.{alike-of, AreAlike-Keeps, IsAlike-Keeps, IsAlikeIn-Keeps}
+use Rattle.sc_expand.proofs.Facts.{Denotes-self, Extends-refl, IsConfig-Keeps, Keeps-trans, cases_Bool, err_from_is_err_and, items_at-Keeps, or-false}
 use Rattle.sc_expand.proofs.GatherBranches.{first-of-each}
 use Rattle.sc_expand.proofs.LastLemmas.{last-later}
 use Rattle.sc_expand.proofs.SeenLemmas.{AreHeld-Grows, IsHeldExpansion-Grows, at-Grows, seen_at-Grows}
 use Rattle.sc_expand.proofs.StopsLemmas.{stops-weaker}
 use Rattle.sc_expand.proofs.TakenLemmas.{taken-each}
-use Rattle.std.proofs.Math.Bool.{or-false}
 use Rattle.sc_expand.proofs.TakingParts.{none-found}
 use Rattle.sc_expand.proofs.TakingSteps.{called-comes, has_first-Keeps, object-comes, on-ok, same-step}
+use Rattle.sc_expand.proofs.Terms.{Cond, Frame, Grows, Hidden, IsConfig, at, has_each, has_first, is_function_like, items_at, provenance_of, seen_definition, seen_hidden, stores}
 use Rattle.sc_expand.proofs.WorkListLemmas.{has_each-Keeps}
-use Rattle.sc_expand.specs.declared.frame.Frame.{Frame}
-use Rattle.sc_expand.specs.Having.{has_each}
-use Rattle.sc_expand.specs.Machine.{at}
-use Rattle.sc_expand.specs.Seen.{Grows, provenance_of, stores}
-use Rattle.sc_expand.specs.Taking.{has_first}
-use Rattle.sc_guarded.proofs.ItemLemmas.{items_at-Keeps}
-use Rattle.sc_guarded.specs.Items.{items_at}
-use Rattle.sc_macro.specs.Seen.{seen_definition}
-use Rattle.sc_model.proofs.SetLemmas.{Denotes-self, IsConfig-Keeps, Keeps-trans}
-use Rattle.sc_model.specs.Sets.{IsConfig}
-use Rattle.sc_subst.specs.declared.hidden.Hidden.{Hidden}
-use Rattle.sc_subst.specs.Seen.{seen_hidden}
 use Rattle.sc_expand.proofs.expansion.Expansion.take_defined.Goals as goal
 
 pub returns-then-is_function_like-clause-taken : goal.returns-then-is_function_like-clause-taken

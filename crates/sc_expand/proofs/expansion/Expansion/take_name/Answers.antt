@@ -1,35 +1,16 @@
 use Rattle.std.proofs.Common.{◌≡◌, ◌∙◌, ◌∷◌, ℕ, [], List, All, Global, None, Option, true, ap, map, not, subst, sym, if◌then◌else◌, refl}
-use Rattle.std.proofs.lemmas.Bool.{and_parts}
-use Rattle.std.proofs.lemmas.Result.{err_from_is_err_and}
-use Rattle.std.specs.Global.{Vec}
-use Rattle.std.specs.declared.rc.Rc.{Rc}
-use Rattle.c11_macros.specs.Macros.{Definition}
-use Rattle.c11_macros.specs.Expansion.{is_looked_up}
-use Rattle.c11_tokens.specs.Lex.{is_identifier_kind}
-use Rattle.sc_base.proofs.Growth.{Extends-refl}
-use Rattle.sc_base.specs.declared.id.Cond.{Cond}
+use Rattle.sc_expand.proofs.AlikeGathering.{each-same-call}
+use Rattle.sc_expand.proofs.AlikeLemmas.{alike-of, IsAlike-Keeps, IsAlikeIn-Keeps}
+use Rattle.sc_expand.proofs.AlikeTaking.{found-alike, same-defined}
+use Rattle.sc_expand.proofs.Facts.{All-nil, Extends-refl, IsConfig-Keeps, IsConfig-kept, Keeps-trans, and_parts, err_from_is_err_and}
 use Rattle.sc_expand.proofs.SeenLemmas.{IsHeldExpansion-Grows, at-Grows}
 use Rattle.sc_expand.proofs.StopsLemmas.{stops-earlier}
 use Rattle.sc_expand.proofs.TakenLemmas.{taken-earlier}
 use Rattle.sc_expand.proofs.TakingParts.{found-function, none-found, one-found, seen_by, still-untaken}
+use Rattle.sc_expand.proofs.Terms.{AreAlike, At, Comes, Cond, Definition, Grows, Hidden, IsAlike, IsBegun, IsFunctionLike, Rc, TakesPart, Vec, hide_at, is_identifier_kind, is_looked_up, items_at, macros_at, provenance_of, seen_hidden, step_at, stores, text_of}
 use Rattle.sc_expand.proofs.UnchangedTaking.{found-none}
-use Rattle.sc_expand.specs.Alike.{IsFunctionLike}
-use Rattle.sc_expand.specs.Seen.{Grows, provenance_of, stores}
-use Rattle.sc_expand.specs.Taking.{Comes, IsBegun, TakesPart, step_at}
-use Rattle.sc_expand.specs.Turn.{At}
-use Rattle.sc_guarded.specs.Items.{items_at}
-use Rattle.sc_macro.specs.declared.definition.Definition as declared
-use Rattle.sc_macro.specs.Seen.{text_of}
-use Rattle.sc_model.proofs.SetLemmas.{IsConfig-Keeps, IsConfig-kept, Keeps-trans}
-use Rattle.sc_subst.specs.declared.hidden.Hidden.{Hidden}
-use Rattle.sc_subst.specs.Seen.{hide_at, seen_hidden}
-use Rattle.sc_table.specs.Table.{macros_at}
-use Rattle.std.proofs.lemmas.List.Elements.{All-nil}
-use Rattle.sc_expand.proofs.AlikeGathering.{each-same-call}
-use Rattle.sc_expand.proofs.AlikeLemmas.{alike-of, IsAlike-Keeps, IsAlikeIn-Keeps}
-use Rattle.sc_expand.proofs.AlikeTaking.{found-alike, same-defined}
 use Rattle.sc_expand.proofs.WorkListLemmas.{has_each-Keeps}
-use Rattle.sc_hoist.specs.Alike.{AreAlike, IsAlike}
+use Rattle.sc_macro.specs.declared.definition.Definition as declared
 use Rattle.sc_expand.proofs.expansion.Expansion.take_name.Goals as goal
 
 pub take_parts-requires-clause-held : goal.take_parts-requires-clause-held

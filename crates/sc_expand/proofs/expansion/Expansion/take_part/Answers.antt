@@ -1,23 +1,15 @@
 use Rattle.std.proofs.Common.{◌≡◌, ◌∙◌, ◌||◌, ℕ, true, List, IsTrue, Some, ap, subst, sym}
-use Rattle.std.proofs.Math.Bool.{or-false}
-use Rattle.std.specs.Option.{option_map}
-use Rattle.c11_macros.specs.Defines.{is_function_like}
-use Rattle.sc_base.proofs.Growth.{Extends-refl}
 use Rattle.sc_expand.proofs.AlikeLemmas.{alike-of, AreAlike-Keeps, IsAlikeIn-Keeps}
+use Rattle.sc_expand.proofs.Facts.{Denotes-self, Extends-refl, IsConfig-Keeps, if_err, or-false, or_right}
 use Rattle.sc_expand.proofs.KeepingLists.{lists-same}
 use Rattle.sc_expand.proofs.PlainCases.{case-undefined}
 use Rattle.sc_expand.proofs.SeenLemmas.{AreHeld-Grows, IsHeldExpansion-Grows, at-Grows, seen_at-Grows}
 use Rattle.sc_expand.proofs.StopsLemmas.{stops-weaker}
 use Rattle.sc_expand.proofs.TakenLemmas.{taken-each}
 use Rattle.sc_expand.proofs.TakingSteps.{has_first-Keeps, last-undefined, on-ok, same-step}
+use Rattle.sc_expand.proofs.Terms.{Grows, is_function_like, option_map, seen_definition, seen_hidden, stores}
 use Rattle.sc_expand.proofs.WorkListLemmas.{has_each-Keeps}
-use Rattle.sc_expand.specs.Seen.{Grows, stores}
 use Rattle.sc_expand.specs.Taking.{IsFunction, IsTaken, kept}
-use Rattle.sc_macro.specs.Seen.{seen_definition}
-use Rattle.sc_model.proofs.SetLemmas.{Denotes-self, IsConfig-Keeps}
-use Rattle.sc_subst.proofs.Store.{if_err}
-use Rattle.sc_subst.specs.Seen.{seen_hidden}
-use Rattle.std.proofs.lemmas.Bool.{or_right}
 use Rattle.sc_expand.proofs.expansion.Expansion.take_part.Goals as goal
 
 pub returns-in_ok-taken-in-None-clause-taken : goal.returns-in_ok-taken-in-None-clause-taken

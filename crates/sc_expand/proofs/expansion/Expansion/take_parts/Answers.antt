@@ -1,21 +1,11 @@
-use Rattle.std.proofs.Common.{◌≡◌, ◌∙◌, ℕ, List, Some, ap, true, refl, sym, subst}
-use Rattle.std.proofs.lemmas.List.{take_all}
-use Rattle.std.proofs.lemmas.Option.{IfSome_then, slice_get-get_or}
-use Rattle.std.proofs.lemmas.Result.{err_from_is_err_and}
-use Rattle.std.specs.Prelude.{IfSome, slice_get}
-use Rattle.c11_macros.specs.Expansion.{is_looked_up}
+use Rattle.std.proofs.Common.{◌≡◌, ◌∙◌, ℕ, List, Some, ap, true, refl, sym, subst, IfSome, slice_get}
 use Rattle.sc_expand.proofs.AlikeTaking.{function-earlier}
+use Rattle.sc_expand.proofs.Facts.{IfSome_then, IsConfig-kept, IsHeldDefinition-Extends, Keeps-trans, err_from_is_err_and, slice_get-get_or, take_all}
 use Rattle.sc_expand.proofs.SeenLemmas.{Grows-refl, Grows-trans, seen_hidden-Grows, token-Grows}
 use Rattle.sc_expand.proofs.StopsLemmas.{stops-earlier}
 use Rattle.sc_expand.proofs.TakingParts.{none-taken, part-taken}
 use Rattle.sc_expand.proofs.TakingSteps.{none-before}
-use Rattle.sc_expand.specs.Seen.{Grows, stores}
-use Rattle.sc_expand.specs.Taking.{AreTaken, IsBegun, IsFunction, TakesPart, step_at}
-use Rattle.sc_macro.specs.Seen.{IsHeldDefinition}
-use Rattle.sc_model.proofs.SetLemmas.{IsConfig-kept, Keeps-trans}
-use Rattle.sc_model.specs.Sets.{IsCond}
-use Rattle.sc_subst.specs.Seen.{seen_hidden}
-use Rattle.sc_table.proofs.Growth.{IsHeldDefinition-Extends}
+use Rattle.sc_expand.proofs.Terms.{AreTaken, Grows, IsBegun, IsCond, IsFunction, IsHeldDefinition, TakesPart, is_looked_up, seen_hidden, step_at, stores}
 use Rattle.sc_expand.proofs.expansion.Expansion.take_parts.Goals as goal
 
 pub take_part-requires-clause-name : goal.take_part-requires-clause-name

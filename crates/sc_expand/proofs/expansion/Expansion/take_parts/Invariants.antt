@@ -1,8 +1,5 @@
 use Rattle.std.proofs.Common.{◌≡◌, All, Global, None, Option, take}
-use Rattle.std.specs.declared.rc.Rc.{Rc}
-use Rattle.sc_base.specs.declared.id.Cond.{Cond}
-use Rattle.sc_expand.specs.Seen.{Grows, stores}
-use Rattle.sc_expand.specs.Taking.{AreTaken}
+use Rattle.sc_expand.proofs.Terms.{AreTaken, Cond, Grows, Rc, stores}
 use Rattle.sc_macro.specs.declared.definition.Definition.{Definition}
 use Rattle.sc_expand.proofs.expansion.Expansion.take_parts.Given as goal
 

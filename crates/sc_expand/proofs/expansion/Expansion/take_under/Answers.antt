@@ -1,17 +1,12 @@
 use Rattle.std.proofs.Common.{◌≡◌, ◌∙◌, [], false, ap, refl, subst, sym}
-use Rattle.std.proofs.lemmas.List.Elements.{All-nil}
-use Rattle.c11_macros.specs.Expansion.{is_looked_up}
-use Rattle.sc_base.specs.declared.id.Cond.{Cond}
+use Rattle.sc_expand.proofs.Facts.{All-nil}
 use Rattle.sc_expand.proofs.KeepingLists.{lists-same}
 use Rattle.sc_expand.proofs.PlainCases.{case-hidden}
 use Rattle.sc_expand.proofs.SeenLemmas.{AreHeld-nil}
 use Rattle.sc_expand.proofs.TakenLemmas.{taken-each}
 use Rattle.sc_expand.proofs.TakingSteps.{last-hidden, same-step}
-use Rattle.sc_expand.specs.Seen.{AreHeld, seen_at, stores}
+use Rattle.sc_expand.proofs.Terms.{AreAlike, AreHeld, Cond, Hidden, IsAlike, is_looked_up, seen_at, seen_hidden, stores}
 use Rattle.sc_expand.specs.Taking.{kept}
-use Rattle.sc_hoist.specs.Alike.{AreAlike, IsAlike}
-use Rattle.sc_subst.specs.declared.hidden.Hidden.{Hidden}
-use Rattle.sc_subst.specs.Seen.{seen_hidden}
 use Rattle.sc_expand.proofs.expansion.Expansion.take_under.Goals as goal
 
 pub returns-clause-takes : goal.returns-clause-takes

@@ -1,10 +1,8 @@
 use Rattle.std.proofs.Common.{length, Some, true, vec_len, sym, subst, ◌∙◌}
-use Rattle.sc_base.proofs.Growth.{Extends-refl}
 use Rattle.sc_expand.proofs.Dropping.{no-first, none-popped, not-some}
+use Rattle.sc_expand.proofs.Facts.{Extends-refl}
+use Rattle.sc_expand.proofs.Terms.{Grows, IsTurned, macros_at, stores}
 use Rattle.sc_expand.proofs.Turning.{call-alone, call-held, called-turn, left-turn, no-turn, popped-held, taken-turn}
-use Rattle.sc_expand.specs.Running.{IsTurned}
-use Rattle.sc_expand.specs.Seen.{Grows, stores}
-use Rattle.sc_table.specs.Table.{macros_at}
 use Rattle.sc_expand.proofs.expansion.Expansion.turn.Goals as goal
 
 pub go_on-requires-clause-held : goal.go_on-requires-clause-held

@@ -1,10 +1,7 @@
 use Rattle.std.proofs.Common.{subst, sym}
-use Rattle.c11_macros.specs.Hidden.{Failure}
-use Rattle.sc_base.specs.declared.place.Place.{Place}
-use Rattle.sc_expand.specs.Refusing.{LeavesOpen}
-use Rattle.sc_model.specs.declared.cause.Cause.TheVariants.{UnterminatedCall}
+use Rattle.sc_expand.proofs.Facts.{Denotes-self, Keeps-trans}
 use Rattle.sc_expand.proofs.LeavingLemmas.{left-refused, left-waits}
-use Rattle.sc_model.proofs.SetLemmas.{Denotes-self, Keeps-trans}
+use Rattle.sc_expand.proofs.Terms.{Failure, LeavesOpen, Place, UnterminatedCall}
 use Rattle.sc_expand.proofs.refusals.Refusals.leave_open.Goals as goal
 
 pub returns-then-whole-clause-leaves : goal.returns-then-whole-clause-leaves

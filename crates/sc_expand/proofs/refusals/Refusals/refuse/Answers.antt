@@ -1,15 +1,8 @@
 use Rattle.std.proofs.Common.{◌∙◌, ◌++◌, ◌∷◌, ◌<◌, ◌&&◌, [], All, append-nil, drop, map, not, refl, sym, ap, subst, if◌then◌else◌}
-use Rattle.std.proofs.lemmas.List.{map-append}
-use Rattle.std.proofs.lemmas.List.Elements.{All-drop, All-push}
-use Rattle.sc_base.specs.declared.fault.Fault.{Fault}
 use Rattle.sc_expand.proofs.AlikeLemmas.{AreAlikeFaults-Keeps, IsAlike-Keeps, All-drop-push, alike-of}
+use Rattle.sc_expand.proofs.Facts.{All-drop, All-push, Denotes-Keeps, Denotes-self, IsConfig-Keeps, Keeps-trans, faults_at-Keeps, faults_at-append, map-append, map-one}
 use Rattle.sc_expand.proofs.TakingLemmas.{stays-there}
-use Rattle.sc_expand.specs.Seen.{seen_failure, failures_at}
-use Rattle.sc_guarded.proofs.ItemLemmas.{faults_at-append, faults_at-Keeps, map-one}
-use Rattle.sc_guarded.specs.Items.{faults_at}
-use Rattle.sc_hoist.specs.Alike.{IsAlike}
-use Rattle.sc_model.proofs.SetLemmas.{Denotes-self, Denotes-Keeps, IsConfig-Keeps, Keeps-trans}
-use Rattle.sc_model.specs.Sets.{IsCond, Keeps}
+use Rattle.sc_expand.proofs.Terms.{Fault, IsAlike, IsCond, Keeps, failures_at, faults_at, seen_failure}
 use Rattle.sc_expand.proofs.refusals.Refusals.refuse.Goals as goal
 
 pub returns-then-is_never-clause-refuses : goal.returns-then-is_never-clause-refuses

@@ -1,7 +1,6 @@
 use Rattle.std.proofs.Common.{◌||◌, ◌∙◌, refl, sym, ap}
-use Rattle.std.proofs.Math.Bool.{or-false}
+use Rattle.sc_expand.proofs.Facts.{Denotes-Keeps, Denotes-self, or-false}
 use Rattle.sc_expand.proofs.TakingLemmas.{stays-there}
-use Rattle.sc_model.proofs.SetLemmas.{Denotes-self, Denotes-Keeps}
 use Rattle.sc_expand.proofs.refusals.Refusals.wait.Goals as goal
 
 pub returns-then-is_never-clause-waits : goal.returns-then-is_never-clause-waits

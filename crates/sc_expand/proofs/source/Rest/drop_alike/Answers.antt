@@ -1,7 +1,7 @@
 use Rattle.std.proofs.Common.{◌<◌, ◌≤◌, arith, length}
-use Rattle.std.proofs.lemmas.Grind.{common_steps}
+use Rattle.sc_expand.proofs.Facts.{common_steps}
 use Rattle.sc_expand.proofs.RestLemmas.{drops-restricted}
-use Rattle.sc_expand.specs.WorkLists.{items_of}
+use Rattle.sc_expand.proofs.Terms.{items_of}
 use Rattle.sc_expand.proofs.source.Rest.drop_alike.Goals as goal
 
 pub returns-then-self-gt0 : goal.returns-then-self-gt0

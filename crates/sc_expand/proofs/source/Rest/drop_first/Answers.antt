@@ -1,6 +1,6 @@
 use Rattle.std.proofs.Common.{◌∙◌}
 use Rattle.sc_expand.proofs.RestLemmas.{drop-items_of}
-use Rattle.sc_expand.specs.WorkLists.{items_of}
+use Rattle.sc_expand.proofs.Terms.{items_of}
 use Rattle.sc_expand.proofs.source.Rest.drop_first.Goals as goal
 
 pub returns-clause-is : goal.returns-clause-is

@@ -1,5 +1,5 @@
 use Rattle.std.proofs.Common.{sym}
-use Rattle.std.proofs.lemmas.List.{drop-drop}
+use Rattle.sc_expand.proofs.Facts.{drop-drop}
 use Rattle.sc_expand.proofs.source.Source.drop_next.Goals as goal
 
 pub returns-then-self-len : goal.returns-then-self-len

@@ -1,7 +1,6 @@
 use Rattle.std.proofs.Common.{◌≡◌, ◌++◌, [], arith, subst, sym}
-use Rattle.std.proofs.lemmas.List.{nil_from_length}
-use Rattle.std.proofs.lemmas.Grind.{common_steps}
-use Rattle.sc_expand.specs.WorkLists.{DropsAlike, items_behind}
+use Rattle.sc_expand.proofs.Facts.{common_steps, nil_from_length}
+use Rattle.sc_expand.proofs.Terms.{DropsAlike, items_behind}
 use Rattle.sc_expand.proofs.work_list.WorkList.drop_alike.Goals as goal
 
 pub returns-then-is_empty : goal.returns-then-is_empty

@@ -1,5 +1,5 @@
 use Rattle.std.proofs.Common.{◌≡◌, ◌++◌, ◌∙◌, ap, append_assoc, arith, drop}
-use Rattle.sc_expand.specs.WorkLists.{items_behind}
+use Rattle.sc_expand.proofs.Terms.{items_behind}
 use Rattle.sc_expand.proofs.work_list.WorkList.put_first.Goals as goal
 
 pub returns : goal.returns
