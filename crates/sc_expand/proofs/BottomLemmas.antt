@@ -1,9 +1,8 @@
 -- What a configuration still has of the list that lies below all others.
 use Rattle.std.proofs.Common.{◌≡◌, ℕ, ◌≤◌, Bool, true, false, List, [], ◌∷◌, ◌++◌, All, length, length-append, refl, sym, ap, ◌∙◌, arith, if◌then◌else◌}
 use Rattle.sc_expand.proofs.Facts.{All-cons, All-head, All-nil}
-use Rattle.sc_expand.proofs.LastLemmas.{behind-each}
+use Rattle.sc_expand.proofs.WorkListLemmas.{behind-each, has_each-Keeps}
 use Rattle.sc_expand.proofs.Terms.{Cond, Enclosing, Expansion, Frame, HasMore, Hidden, IsCond, IsConfig, IsHeldEnclosing, IsHeldExpansion, IsHeldFrame, Keeps, Sets, Stores, behind_at, bottom, bottom_by}
-use Rattle.sc_expand.proofs.WorkListLemmas.{has_each-Keeps}
 
 -- ---- how many stand behind each
 

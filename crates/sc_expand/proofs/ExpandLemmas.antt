@@ -7,7 +7,7 @@ use Rattle.sc_expand.proofs.Facts.{All-append, All-head, All-tail, IsConfig-Keep
 use Rattle.sc_expand.proofs.PuttingOut.{some-Keeps}
 use Rattle.sc_expand.proofs.SettledEnds.{held-closed, settles-closed}
 use Rattle.sc_expand.proofs.TakingParts.{none-found}
-use Rattle.sc_expand.proofs.Terms.{AreAlike, AreAlikeFaults, AreHeld, Cond, DefineAlike, DefineTextAlike, Expanded, Expands, Fault, Hidden, IsAlike, IsClosed, IsCond, IsConfig, IsDone, IsEmpty, IsExpanded, IsHeld, IsHeldAnswer, IsHeldHidden, IsHeldSettled, IsHeldToken, IsNever, IsSettled, IsUntouched, Keeps, Macros, Name, PutsOut, Sets, Settled, Token, after_these, failures_at, faults_at, is_several, items_at, provenance_of, seen, seen_at, seen_failure, seen_hidden, set_at, stores, unclosed_at}
+use Rattle.sc_expand.proofs.Terms.{AreAlike, AreAlikeFaults, AreHeld, Cond, DefineAlike, DefineTextAlike, Expanded, Expands, Fault, Hidden, IsAlike, IsClosed, IsCond, IsConfig, IsDone, IsEmpty, IsExpanded, IsHeld, IsHeldAnswer, IsHeldHidden, IsHeldSettled, IsHeldToken, IsNever, IsSettled, Keeps, Macros, Name, Sets, Settled, Token, after_these, failures_at, faults_at, is_several, items_at, provenance_of, seen, seen_at, seen_failure, seen_hidden, set_at, stores, unclosed_at}
 use Rattle.sc_expand.proofs.TextLemmas.{begun, expanded-fault, expanded-list, seen_hidden-begun, text-defines}
 use Rattle.sc_expand.specs.Open.{closed}
 use Rattle.sc_expand.specs.Running as running

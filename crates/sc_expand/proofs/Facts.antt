@@ -1,4 +1,4 @@
--- The lemmas of the library and of the crates below that the proofs of this crate rest on, passed on.
+-- Lemmas of the library and of the crates below that the proofs of this crate rest on, passed on.
 pub use Rattle.std.proofs.Math.Bool.{and-false, and-true, or-false}
 pub use Rattle.std.proofs.Math.ListN.{get_or-map}
 pub use Rattle.std.proofs.Math.Seq.{drop-append_seam, drop-cons, get_or-append_seam, set-append_seam, take-append-add, take-append_seam}

@@ -5,9 +5,8 @@ use Rattle.sc_expand.proofs.AlikeLemmas.{IsAlike-Keeps}
 use Rattle.sc_expand.proofs.BeginningLemmas.{same_conds}
 use Rattle.sc_expand.proofs.Facts.{All-cons, All-nil, IsConfig-Keeps, IsConfig-kept, form_later, get_or-take, hidden_later, items_later, length-append, length-take, lists_at-append, take_more, text_later}
 use Rattle.sc_expand.proofs.GatherPlaces.{spelled-behind}
-use Rattle.sc_expand.proofs.KeepingLists.{lists-same, lists-then}
-use Rattle.sc_expand.proofs.LastLemmas.{last-each, last-earlier, last-later}
-use Rattle.sc_expand.proofs.TakingSteps.{seen-first}
+use Rattle.sc_expand.proofs.TakingSteps.{lists-same, lists-then, seen-first}
+use Rattle.sc_expand.proofs.WorkListLemmas.{last-each, last-earlier, last-later}
 use Rattle.sc_expand.proofs.Terms.{AreGathered, At, Branch, Cond, Definition, Expansion, Gathers, Grows, HasLast, Hidden, HiddenToken, IsAlike, IsBranch, IsCalled, IsCond, IsConfig, IsHeldForm, IsHeldHidden, IsHeldItem, IsMacro, Macros, Place, Provenance, Sets, Stores, at, call_end, call_length, has_each, has_first, is_looked_up, lists_at, places_from, seen_at, seen_hidden, spelled_at, tokens_in}
 use Rattle.sc_macro.specs.declared.definition.Item as declared_item
 use Rattle.sc_macro.specs.declared.form.Form as declared_form

@@ -6,12 +6,11 @@ use Rattle.sc_expand.proofs.Facts.{Extends-refl, IsConfig-Keeps, IsConfig-kept, 
 use Rattle.sc_expand.proofs.FirstCallLemmas.{and_known}
 use Rattle.sc_expand.proofs.GatherBranches.{called-later, spelled-same}
 use Rattle.sc_expand.proofs.GatherEnds.{Ending, end-behind, end-is, ended-first, ended-gathers, ended-other, macro-is}
-use Rattle.sc_expand.proofs.LastLemmas.{last-earlier, last-later}
+use Rattle.sc_expand.proofs.WorkListLemmas.{last-earlier, last-later, has_each-Keeps}
 use Rattle.sc_expand.proofs.SeenLemmas.{Grows-trans, IsHeldExpansion-Grows, at-Grows, view_at-Grows}
 use Rattle.sc_expand.proofs.TakingLemmas.{gone, stays-there}
 use Rattle.sc_expand.proofs.TakingSteps.{has_first-Keeps}
 use Rattle.sc_expand.proofs.Terms.{AreBranches, AreGathered, At, Branch, CallEnd, Denotes, Expansion, Extends, Failure, Grows, Hidden, IsAlike, IsAlikeIn, IsBranch, IsCalled, IsConfig, IsGathered, IsHeldDefinition, IsHeldExpansion, IsHeldHidden, IsHeldItem, IsSameCall, Keeps, LeavesOpen, Place, Refusals, Sets, Span, Stores, UnterminatedCall, alone, at, bare, call_end, call_end_at, call_places, closed, ends_at, failure_at, has_first, is_end, is_function_like, is_left, is_whole, left_end, list_at, lists_at, provenance_of, seen_definition, seen_form, seen_hidden, seen_item, seen_place, seen_replacement, still, stores, tokens_in, with_end}
-use Rattle.sc_expand.proofs.WorkListLemmas.{has_each-Keeps}
 use Rattle.sc_hoist.proofs.PartLemmas.{one_list}
 use Rattle.sc_hoist.specs.Leaves.{Agree}
 use Rattle.sc_macro.specs.declared.definition.Definition as declared_definition

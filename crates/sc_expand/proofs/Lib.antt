@@ -6,7 +6,6 @@ pub mod PlainArguments
 pub mod PlainCompletes
 pub mod PlainMoves
 pub mod PlainReaches
-pub mod PlainTotal
 pub mod PlainTables
 pub mod PlainTurns
 pub mod PlainCases
@@ -17,9 +16,7 @@ pub mod Parting
 pub mod PartingGroups
 pub mod WorkListLemmas
 pub mod RestrictLemmas
-pub mod LastLemmas
 pub mod SeenLemmas
-pub mod KeepingLists
 pub mod BeginningLemmas
 pub mod FillingLemmas
 pub mod AlikeFilling
@@ -54,7 +51,6 @@ pub mod GatherCases
 pub mod GatherPlaces
 pub mod GatherSteps
 pub mod GatherTaking
-pub mod GatherFiles
 pub mod GatherBranches
 pub mod GatherEnds
 pub mod GatherParts
@@ -64,14 +60,11 @@ pub mod WaitingLemmas
 pub mod WaitingTaking
 pub mod UnchangedLemmas
 pub mod UnchangedTaking
-pub mod UnchangedAnswers
-pub mod Lower
 pub mod Behind
 pub mod Phases
 pub mod FootprintLemmas
 pub mod FootprintPlaces
 pub mod PhaseLists
-pub mod PhaseItems
 pub mod PhaseSegments
 pub mod PhaseStarts
 pub mod PhaseMoves

@@ -3,7 +3,7 @@ use Rattle.std.proofs.Common.{◌≡◌, ℕ, ◌≤◌, ◌&&◌, not, Bool, tr
 use Rattle.sc_expand.proofs.Facts.{IsConfig-Keeps, and-false, and-true}
 use Rattle.sc_expand.proofs.OpenLemmas.{waits-not}
 use Rattle.sc_expand.proofs.SeenLemmas.{calls_at-Grows, ends_at-Grows, seen_at-Grows, seen_at-append}
-use Rattle.sc_expand.proofs.Terms.{Call, Cause, Cond, Denotes, Expansion, Fails, Failure, Grows, Hidden, IsConfig, IsHeldExpansion, Macros, Moves, Part, Place, State, Stores, Waiting, Waits, at, at_call, calls_at, ends_at, filled_in, hide_at, hiding, provenance_of, replacement_of, result_map, scanning, seen_at, seen_part, seen_template, seen_wanted, state_by, state_of, view_at, waiting, waiting_at, with_call, with_space}
+use Rattle.sc_expand.proofs.Terms.{Call, Cause, Cond, Denotes, Expansion, Fails, Failure, Grows, Hidden, IsConfig, IsHeldExpansion, Macros, Moves, Part, Place, Stores, Waits, at, at_call, calls_at, ends_at, filled_in, hide_at, hiding, provenance_of, replacement_of, result_map, scanning, seen_at, seen_part, seen_template, seen_wanted, state_by, state_of, view_at, waiting, waiting_at, with_call, with_space}
 use Rattle.sc_expand.specs.Plain as plain
 use Rattle.sc_expand.specs.Turn.{Turn, ended, fails, moved, passed, refused, with_end}
 

@@ -4,7 +4,7 @@ use Rattle.std.proofs.Common.{◌≡◌, ◌⊎◌, inl, inr, ℕ, false, List, 
 use Rattle.c11_macros.specs.Expansion as expansion
 use Rattle.c11_macros.specs.Runs as run
 use Rattle.sc_expand.proofs.Facts.{append_cancel_right, called-ends, case-in, cons-some, false_from_ne_true, leaves-source, leaves-split, misfit-ends, these-none}
-use Rattle.sc_expand.proofs.Lower.{lower-all, lower-min}
+use Rattle.sc_expand.proofs.Behind.{lower-all, lower-min}
 use Rattle.sc_expand.proofs.PlainArguments.{replaced_with}
 use Rattle.sc_expand.proofs.PlainCompletes.{Completes, looked, scanned, scans}
 use Rattle.sc_expand.proofs.PlainMoves.{asked-each, fails-by, move-back, none-asked}

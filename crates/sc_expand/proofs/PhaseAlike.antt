@@ -4,11 +4,10 @@ use Rattle.std.proofs.Common.{◌≡◌, ◌⊎◌, inl, inr, ℕ, suc, ◌+◌,
 use Rattle.sc_expand.proofs.AlikeGathering.{same-call}
 use Rattle.sc_expand.proofs.AlikeRunning.{seen-first}
 use Rattle.sc_expand.proofs.AlikeTaking.{alike-first}
-use Rattle.sc_expand.proofs.Behind.{below}
+use Rattle.sc_expand.proofs.Behind.{below, lower-min}
 use Rattle.sc_expand.proofs.Facts.{IsConfig-Keeps, cons-some, length-map, take_all}
 use Rattle.sc_expand.proofs.GatherCases.{spellings}
 use Rattle.sc_expand.proofs.GatherPlaces.{spelled-behind}
-use Rattle.sc_expand.proofs.Lower.{lower-min}
 use Rattle.sc_expand.proofs.MachineLemmas.{pending_at, stands-cases, state-top}
 use Rattle.sc_expand.proofs.NameRuns.{IsInFront, StateRuns}
 use Rattle.sc_expand.proofs.NameUses.{state-looks}

@@ -3,10 +3,9 @@
 use Rattle.std.proofs.Common.{◌≡◌, ◌⊎◌, inl, inr, ℕ, zero, suc, ◌+◌, ◌-◌, ◌<◌, ◌≤◌, ◌&&◌, Bool, true, false, true≢false, List, [], ◌∷◌, ◌++◌, All, append-nil, drop, length, length-append, None, Some, slice_get, take, refl, sym, ap, subst, ◌∙◌, arith, if◌then◌else◌}
 use Rattle.sc_expand.proofs.AlikeLemmas.{AreAlike-Keeps}
 use Rattle.sc_expand.proofs.AlikeRunning.{seen-first}
-use Rattle.sc_expand.proofs.Behind.{below, Fall, behind-falls, below-all, below-not}
+use Rattle.sc_expand.proofs.Behind.{below, Fall, behind-falls, below-all, below-not, lower-min}
 use Rattle.sc_expand.proofs.Facts.{All-append, All-cons, All-drop, All-nil, IsConfig-Keeps, IsConfig-kept, and-false, false_from_ne_true, items_at-Keeps, items_at-append, length-map}
 use Rattle.sc_expand.proofs.GatherPlaces.{spelled-behind}
-use Rattle.sc_expand.proofs.Lower.{lower-min}
 use Rattle.sc_expand.proofs.NamedItems.{indexes-long, item-all, item-append, item-lacks, item-whole, lacks-alike, same-name-Keeps, same-name-more, first-alone, item-none}
 use Rattle.sc_expand.proofs.PhaseAlike.{IsLast, alike-after, calls-or-last, first-both}
 use Rattle.sc_expand.proofs.PhaseCalls.{below-fewer, function-of, span-count, stays-moves, unclosed-ends, uncalled-case}
@@ -20,7 +19,7 @@ use Rattle.sc_expand.proofs.PlainSettles.{no-fails, no-moves, no-waits}
 use Rattle.sc_expand.proofs.Rests.{first-is, next-token}
 use Rattle.sc_expand.proofs.RunLemmas.{IsRunning, bottom-state, running-apart, running-stands, turned-at, running-turned}
 use Rattle.sc_expand.proofs.SeenLemmas.{seen_at-Grows, seen_at-append, Grows-trans}
-use Rattle.sc_expand.proofs.Terms.{AreAlike, AreHeld, CallNextAlike, Cond, Enclosing, Expansion, Fails, Failure, Grows, HasEnded, Hidden, HiddenToken, IsAlike, IsAlikeExpansion, IsAlikeFrame, IsCond, IsConfig, IsHeldExpansion, IsPending, IsSameName, IsTurned, IsWithin, Macros, Moves, Others, Place, Progress, Provenance, Pushes, Stands, State, Stores, TakesName, Waits, at, behind_at, bottom, bottom_by, call_end, call_end_at, calls_at, case_of, closed, expanding, items_at, left_at, lower_of, of_item, others_at, provenance_of, put_by, put_out, scanning, seen_at, seen_hidden, state_by, state_in, stays, tokens_in, unclosed, view_at, waiting}
+use Rattle.sc_expand.proofs.Terms.{AreAlike, AreHeld, CallNextAlike, Cond, Enclosing, Expansion, Fails, Failure, Grows, HasEnded, Hidden, HiddenToken, IsAlike, IsAlikeExpansion, IsAlikeFrame, IsCond, IsConfig, IsHeldExpansion, IsPending, IsSameName, IsTurned, IsWithin, Macros, Moves, Others, Place, Progress, Provenance, Pushes, Stands, State, Stores, TakesName, Waits, at, behind_at, bottom, bottom_by, call_end, call_end_at, calls_at, case_of, closed, expanding, items_at, lower_of, of_item, others_at, provenance_of, put_by, put_out, scanning, seen_at, seen_hidden, state_by, state_in, stays, tokens_in, unclosed, view_at, waiting}
 use Rattle.sc_expand.proofs.Turning.{put_by-held}
 use Rattle.sc_expand.specs.Machine as machine
 use Rattle.sc_expand.specs.Open as open_end

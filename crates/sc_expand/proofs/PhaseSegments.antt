@@ -6,15 +6,14 @@ use Rattle.sc_expand.proofs.Facts.{All-drop, All-take, IsConfig-Keeps, append_ca
 use Rattle.sc_expand.proofs.MachineLemmas as told
 use Rattle.sc_expand.proofs.MachineLemmas.{IsTold}
 use Rattle.sc_expand.proofs.NamedItems.{first-alone, indexes-long, item-all, item-append, item-lacks, item-none, same-name-Keeps}
-use Rattle.sc_expand.proofs.PhaseItems.{come-many, comes-by, from-later}
+use Rattle.sc_expand.proofs.Phases.{come-many, comes-by, from-later, Begins, Comes, Itself, PairStands, Phase, Puts, Segments, Settling, Spans, Waiting, as_one, at_item, at_start, bound_of, come_through, last_at, state_now, tokens_from}
 use Rattle.sc_expand.proofs.PhaseKeeps.{none-long, number}
 use Rattle.sc_expand.proofs.PhaseLists.{length-seen}
-use Rattle.sc_expand.proofs.Phases.{Begins, Comes, Itself, PairStands, Phase, Puts, Segments, Settling, Spans, Waiting, as_one, at_item, at_start, bound_of, come_through, last_at, state_now, tokens_from}
 use Rattle.sc_expand.proofs.Placed.{IsNext, Placed, away, inside, passed, placed-between, within-more}
 use Rattle.sc_expand.proofs.RunLemmas.{IsRunning, told-apart}
 use Rattle.sc_expand.proofs.SeenLemmas.{seen_at-Grows, seen_at-append}
 use Rattle.sc_expand.proofs.TakingParts.{none-found}
-use Rattle.sc_expand.proofs.Terms.{AreAlike, AreHeld, Becomes, Cond, Enclosing, Expansion, Failure, Grows, HasEnded, Hidden, HiddenToken, IsAlikeFrame, IsCond, IsConfig, IsHeldToken, IsSameName, Macros, Others, Passes, Place, Stores, at, behind_at, bottom, bottom_by, calls_at, indexes_in, items_at, left_at, lower_of, of_item, others_at, provenance_of, put_by, put_out, scanning, seen_at, seen_hidden, state_by, state_in, view_at}
+use Rattle.sc_expand.proofs.Terms.{AreAlike, AreHeld, Becomes, Cond, Enclosing, Expansion, Grows, HasEnded, Hidden, HiddenToken, IsAlikeFrame, IsCond, IsConfig, IsHeldToken, IsSameName, Macros, Others, Passes, Place, Stores, at, behind_at, bottom, bottom_by, calls_at, indexes_in, items_at, left_at, lower_of, of_item, others_at, provenance_of, put_by, put_out, scanning, seen_at, seen_hidden, state_by, state_in, view_at}
 use Rattle.sc_expand.specs.Spans as spans
 
 -- so many lists one after the other

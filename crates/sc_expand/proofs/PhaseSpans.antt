@@ -1,15 +1,13 @@
 -- What a configuration still uses of the item that it expands.
 use Rattle.std.proofs.Common.{◌≡◌, ◌⊎◌, inl, inr, ℕ, suc, ◌+◌, ◌-◌, ◌≤◌, true, true≢false, List, ◌∷◌, ◌++◌, drop, length, length-append, take, sym, ap, subst, ◌∙◌, arith}
-use Rattle.sc_expand.proofs.Behind.{below, below-items}
+use Rattle.sc_expand.proofs.Behind.{below, below-items, lower-min}
 use Rattle.sc_expand.proofs.Facts.{drop-drop, length-drop, length-map, one-run}
-use Rattle.sc_expand.proofs.Lower.{lower-min}
 use Rattle.sc_expand.proofs.NameRuns.{IsInFront, Named, StateRuns}
 use Rattle.sc_expand.proofs.NameUses.{SomeRun, state-runs}
 use Rattle.sc_expand.proofs.PassesLaws.{passes-end, run-same}
 use Rattle.sc_expand.proofs.PhaseCalls.{below-fewer, items-parted}
-use Rattle.sc_expand.proofs.PhaseItems.{comes-by, item-is}
+use Rattle.sc_expand.proofs.Phases.{comes-by, item-is, Begins, Comes, HasItem, Phase, at_item, at_start, bound_of, last_at, state_now, tokens_from}
 use Rattle.sc_expand.proofs.PhaseLists.{same-end, take-least}
-use Rattle.sc_expand.proofs.Phases.{Begins, Comes, HasItem, Phase, at_item, at_start, bound_of, last_at, state_now, tokens_from}
 use Rattle.sc_expand.proofs.Placed as placed
 use Rattle.sc_expand.proofs.Placed.{placed-within}
 use Rattle.sc_expand.proofs.PlainNames.{Covers, covers-same, covers-then}

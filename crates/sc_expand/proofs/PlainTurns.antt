@@ -1,10 +1,97 @@
 -- A turn of the loop: at each configuration one step, or none.
-use Rattle.std.proofs.Common.{◌≡◌, ◌⊎◌, inl, inr, ℕ, ◌<◌, ◌≤◌, Bool, true, List, [], ◌∷◌, subst, arith}
+use Rattle.std.proofs.Common.{◌≡◌, ◌⊎◌, inl, inr, ℕ, zero, suc, ◌+◌, ◌<◌, ◌≤◌, ◌≢◌, Bool, true, false, true≢false, List, [], ◌∷◌, length, refl, sym, ap, subst, arith, if◌then◌else◌, slice_index}
+use Rattle.sc_expand.proofs.Facts.{cases_eq}
 use Rattle.sc_expand.proofs.PlainCompletes.{size}
 use Rattle.sc_expand.proofs.PlainReaches.{size-move, size-pos}
-use Rattle.sc_expand.proofs.PlainTotal.{total_of, total_of-le, total_of-less}
-use Rattle.sc_expand.proofs.Terms.{Fails, Failure, HiddenToken as Hidden, IsConfig, IsWithin, Macros, Moves, Provenance, State, Waiting, expanding}
+use Rattle.sc_expand.proofs.Terms.{IsConfig, Fails, Failure, HiddenToken as Hidden, IsWithin, Macros, Moves, Provenance, State, Waiting, expanding}
 use Rattle.sc_expand.specs.Plain as plain
+
+-- ---- sums over all configurations
+
+-- the sum of f over the numbers below a bound
+abbrev pub sum_below : ℕ → (ℕ → ℕ) → ℕ
+sum_below zero f = 0
+sum_below (suc n) f = sum_below n f + f n
+
+-- the sum of f over the configurations of variables with so many options each
+abbrev pub total : List ℕ → (List ℕ → ℕ) → ℕ
+total [] f = f []
+total (arity ∷ arities) f = sum_below arity (λ option. total arities (λ c. f (option ∷ c)))
+
+below-le : (n : ℕ) (f g : ℕ → ℕ) → ((i : ℕ) → i < n → g i ≤ f i) → sum_below n g ≤ sum_below n f
+below-le zero f g le = omega arith
+below-le (suc n) f g le = omega (arith, below-le n f g (λ i below. le i (omega arith)), le n (omega arith))
+
+below-less : (n : ℕ) (f g : ℕ → ℕ) (k : ℕ) → k < n → ((i : ℕ) → i < n → g i ≤ f i) → g k < f k → sum_below n g < sum_below n f
+below-less zero f g k within le less = absurd (omega arith)
+below-less (suc n) f g k within le less =
+    by (cases_eq k n) (below-le n f g (λ i below. le i (omega arith))) (λ before. below-less n f g k before (λ i below. le i (omega arith)) less)
+  where
+    by : (k ≡ n) ⊎ (k ≢ n) → sum_below n g ≤ sum_below n f → (k < n → sum_below n g < sum_below n f) → sum_below (suc n) g < sum_below (suc n) f
+    by (inl same) others later = let here : g n < f n = subst (λ i. g i < f i) same less in omega arith
+    by (inr differ) others later = omega (arith, later (omega (arith, differ)), le n (omega arith))
+
+-- ---- configurations by their first option
+
+config-cons : (arity option : ℕ) (arities c : List ℕ) → option < arity → IsConfig arities c → IsConfig (arity ∷ arities) (option ∷ c)
+config-cons arity option arities c below config = record {
+  long = ap suc config.long;
+  each = λ v within. by v within;
+}
+  where
+    by : (v : ℕ) → v < suc (length arities) → slice_index (option ∷ c) v < slice_index (arity ∷ arities) v
+    by zero within = below
+    by (suc v) within = config.each v (omega arith)
+
+config-tail : (arity option : ℕ) (arities c : List ℕ) → IsConfig (arity ∷ arities) (option ∷ c) → IsConfig arities c
+config-tail arity option arities c config = record { long = omega (arith, config.long); each = λ v below. config.each (suc v) (omega arith) }
+
+-- ---- sums over configurations
+
+pub total-le : (arities : List ℕ) (f g : List ℕ → ℕ) → ((c : List ℕ) → IsConfig arities c → g c ≤ f c) → total arities g ≤ total arities f
+total-le [] f g le = le [] (record { long = refl; each = λ v below. absurd (omega arith) })
+total-le (arity ∷ arities) f g le =
+    below-le arity (λ option. total arities (λ c. f (option ∷ c))) (λ option. total arities (λ c. g (option ∷ c)))
+    (λ option below. total-le arities (λ c. f (option ∷ c)) (λ c. g (option ∷ c)) (λ c config. le (option ∷ c) (config-cons arity option arities c below config)))
+
+-- a sum of which no part grows and one falls
+pub total-less : (arities : List ℕ) (f g : List ℕ → ℕ) (config : List ℕ) → IsConfig arities config → ((c : List ℕ) → IsConfig arities c → g c ≤ f c) → g config < f config → total arities g < total arities f
+total-less [] f g [] is le less = less
+total-less [] f g (option ∷ c) is le less = absurd (omega (arith, is.long))
+total-less (arity ∷ arities) f g [] is le less = absurd (omega (arith, is.long))
+total-less (arity ∷ arities) f g (option ∷ config) is le less =
+    below-less arity (λ option. total arities (λ c. f (option ∷ c))) (λ option. total arities (λ c. g (option ∷ c))) option (is.each 0 (omega arith))
+    (λ option below. total-le arities (λ c. f (option ∷ c)) (λ c. g (option ∷ c)) (λ c config. le (option ∷ c) (config-cons arity option arities c below config)))
+    (total-less arities (λ c. f (option ∷ c)) (λ c. g (option ∷ c)) config (config-tail arity option arities config is) (λ c config. le (option ∷ c) (config-cons arity option arities c (is.each 0 (omega arith)) config)) less)
+
+-- ---- sums over the configurations that pass a test
+
+abbrev pub total_of : List ℕ → (List ℕ → Bool) → (List ℕ → ℕ) → ℕ
+total_of arities has f = total arities (λ c. if has c then f c else 0)
+
+if-le : (has still : Bool) (x y : ℕ) → (still ≡ true → (has ≡ true) × (y ≤ x)) → (if still then y else 0) ≤ (if has then x else 0)
+if-le true true x y known = (known refl).1
+if-le true false x y known = omega arith
+if-le false true x y known = absurd (true≢false (sym (known refl).0))
+if-le false false x y known = omega arith
+
+if-less : (has still : Bool) (x y : ℕ) → has ≡ true → (still ≡ true → y < x) → 0 < x → (if still then y else 0) < (if has then x else 0)
+if-less true true x y here less some = less refl
+if-less true false x y here less some = some
+if-less false still x y here less some = absurd (true≢false (sym here))
+
+-- fewer configurations, and no more at each of them
+pub total_of-le : (arities : List ℕ) (has still : List ℕ → Bool) (f g : List ℕ → ℕ) → ((c : List ℕ) → IsConfig arities c → still c ≡ true → (has c ≡ true) × (g c ≤ f c)) → total_of arities still g ≤ total_of arities has f
+total_of-le arities has still f g le = total-le arities (λ c. if has c then f c else 0) (λ c. if still c then g c else 0) (λ c config. if-le (has c) (still c) (f c) (g c) (le c config))
+
+-- and less at one of them, or that one left
+pub total_of-less : (arities : List ℕ) (has still : List ℕ → Bool) (f g : List ℕ → ℕ) (config : List ℕ) → IsConfig arities config → ((c : List ℕ) → IsConfig arities c → still c ≡ true → (has c ≡ true) × (g c ≤ f c))
+    → has config ≡ true → (still config ≡ true → g config < f config) → 0 < f config → total_of arities still g < total_of arities has f
+total_of-less arities has still f g config is le here less some =
+    total-less arities (λ c. if has c then f c else 0) (λ c. if still c then g c else 0) config is (λ c config. if-le (has c) (still c) (f c) (g c) (le c config))
+    (if-less (has config) (still config) (f config) (g config) here less some)
+
+-- ---- a turn of the loop: at each configuration one step, or none
 
 -- ---- calls that wait for one another
 

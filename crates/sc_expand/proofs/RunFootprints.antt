@@ -5,7 +5,7 @@ use Rattle.c11_macros.specs.Footprint as arriving
 use Rattle.c11_macros.specs.Runs as run
 use Rattle.c11_macros.specs.Trace as used
 use Rattle.sc_expand.proofs.Facts.{drop_at, halts, last-stays, leaves-source, leaves-split, leb-false, leb-true}
-use Rattle.sc_expand.proofs.Lower.{lower-min}
+use Rattle.sc_expand.proofs.Behind.{lower-min}
 use Rattle.sc_expand.proofs.NameRuns.{leaves-one}
 use Rattle.sc_expand.proofs.PassesLaws.{over-source}
 use Rattle.sc_expand.proofs.PlainNames.{Covers, covers-back, covers-both, covers-front, covers-same, covers-then}

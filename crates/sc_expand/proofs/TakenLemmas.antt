@@ -2,7 +2,7 @@
 use Rattle.std.proofs.Common.{◌≡◌, ◌⊎◌, ◌∙◌, ℕ, zero, suc, ◌+◌, ◌≤◌, ◌++◌, Bool, true, false, true≢false, List, [], ◌∷◌, All, drop, take, length, length-append, inl, inr, refl, sym, ap, subst, arith, if◌then◌else◌}
 use Rattle.sc_expand.proofs.Behind.{Fall, behind-falls, length-behind}
 use Rattle.sc_expand.proofs.Facts.{All-cons, All-head, All-nil, All-tail, drop-drop, length-drop}
-use Rattle.sc_expand.proofs.LastLemmas.{behind-drop, behind-each, first-long, last-each, last-earlier, last-later}
+use Rattle.sc_expand.proofs.WorkListLemmas.{behind-drop, behind-each, first-long, last-each, last-earlier, last-later}
 use Rattle.sc_expand.proofs.PhaseLists.{first-had}
 use Rattle.sc_expand.proofs.Terms.{Cond, HasLast, HasTaken, Hidden, Sets, behind_at, has_each, has_first, items_at}
 

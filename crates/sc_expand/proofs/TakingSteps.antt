@@ -1,9 +1,9 @@
 -- What taking a name comes to, by what its parts did.
-use Rattle.std.proofs.Common.{◌≡◌, ◌∙◌, ◌∷◌, ◌++◌, ◌&&◌, ℕ, Bool, true, false, List, [], All, None, Some, Result, Ok, Err, ap, refl, sym, subst, length, take, get_or, zero, suc, ◌<◌, true≢false, map, append-nil, ◌≤◌, arith, if◌then◌else◌, OnOk}
+use Rattle.std.proofs.Common.{refl, ◌∙◌, ◌≡◌, ◌∷◌, ◌++◌, ◌&&◌, ℕ, Bool, true, false, List, [], All, None, Some, Result, Ok, Err, ap, sym, subst, length, take, get_or, zero, suc, ◌<◌, true≢false, map, append-nil, ◌≤◌, arith, if◌then◌else◌, OnOk}
 use Rattle.c11_macros.specs.Expansion as expansion
 use Rattle.sc_expand.proofs.Facts.{All-head, and-false, last-stays}
 use Rattle.sc_expand.proofs.PlainCases.{case-object}
-use Rattle.sc_expand.proofs.Terms.{Case, Comes, Cond, Definition, Failure, Form, Gathers, HiddenToken as Hidden, IsCond, IsConfig, Keeps, Macros, Place, Provenance, Replaces, Sets, Step, Stores, View, called, case_of, function_like, has_first, is_function_like, is_function_named, is_last_name, is_looked_up, items_at, misfit, object_like, object_result, replaced, seen_at, seen_hidden, state_by, state_of, unclosed}
+use Rattle.sc_expand.proofs.Terms.{Expansion, KeepsLists, Case, Comes, Cond, Definition, Failure, Form, Gathers, HiddenToken as Hidden, IsCond, IsConfig, Keeps, Macros, Place, Provenance, Replaces, Sets, Step, Stores, View, called, case_of, function_like, has_first, is_function_like, is_function_named, is_last_name, is_looked_up, items_at, misfit, object_like, object_result, replaced, seen_at, seen_hidden, state_by, state_of, unclosed}
 use Rattle.sc_expand.specs.Gather as gathers
 use Rattle.sc_expand.specs.Open.{Waits, alone, open_call}
 use Rattle.sc_expand.specs.Plain.{Moves, State, Waiting, bad_object, gather, gathered, object, scanning, stay}
@@ -169,3 +169,11 @@ none-before s (y ∷ ys) (suc i) x c within is has one = by (s.has y.0.0 c) one 
         → ((if b then y.1 ∷ items_at s (take i ys) c else items_at s (take i ys) c) ≡ []) × (length (if b then y.1 ∷ items_at s ys c else items_at s ys c) ≡ 1)
     by false le later = later le
     by true le later = (let two = (later (omega (arith, le))).1 in absurd (omega (arith, two, le)))
+
+-- ---- steps that keep the lists below, what was put out and the tokens of the list on top
+
+pub lists-same : (e : Expansion) → KeepsLists e e
+lists-same e = record { below = refl; rest = refl; out = refl; tokens = refl }
+
+pub lists-then : {was mid now : Expansion} → KeepsLists was mid → KeepsLists mid now → KeepsLists was now
+lists-then one two = record { below = two.below ∙ one.below; rest = two.rest ∙ one.rest; out = two.out ∙ one.out; tokens = two.tokens ∙ one.tokens }

@@ -1,4 +1,4 @@
--- The types and definitions that the proofs of this crate speak of, passed on: those of the crates below, and its own.
+-- The types and definitions of this crate and of those below that its proofs speak of, passed on.
 pub use Rattle.std.specs.Global.{Vec}
 pub use Rattle.std.specs.List.{AllByRecursion, list_any, slice_get}
 pub use Rattle.std.specs.Option.{IfSome, option_and_then, option_map, option_or}

@@ -1,10 +1,10 @@
 -- What a text expands to stands on one line, where its tokens and the macros' lists do; and which
 -- macros' lists do.
-use Rattle.std.proofs.Common.{◌≡◌, ℕ, zero, suc, Bool, true, false, List, [], ◌∷◌, All, map, codes, decimal, Option, Some, None, Result, Ok, Err, refl, sym, subst, ◌∙◌, slice_get, if◌then◌else◌}
+use Rattle.std.proofs.Common.{◌≡◌, ℕ, zero, suc, true, List, [], ◌∷◌, All, map, codes, decimal, Option, Some, None, Result, Ok, Err, refl, sym, subst, slice_get}
 use Rattle.std.specs.Map.{update}
-use Rattle.sc_expand.proofs.Facts.{All-from_recursion, All-head, All-map, All-tail, All-weaker, PlainDefinition, PlainItem, PlainToken, both, recursion_from_All, true_from_ne_false, true≢false}
+use Rattle.sc_expand.proofs.Facts.{All-from_recursion, All-head, All-map, All-tail, All-weaker, PlainDefinition, PlainItem, PlainToken, both}
 use Rattle.sc_expand.proofs.PlainLines.{decimal-plain, escaped-plain, quoted-plain, stays-on_one_line}
-use Rattle.sc_expand.proofs.Terms.{AllByRecursion as Every, AreOneLine, Cond, Definition, Expands, Failure, HiddenToken as Hidden, IfSome, IsConfig, IsNever, IsOneLine, Macros, Sets, TextExpands, definition_named, definition_of, escaped, has_no_newline, initial_macros, items_at, number_item, option_and_then, option_or, place_alone, predefined_macros, same_bytes, string_item, text_of_answer, token_of, unhidden, variable_definition}
+use Rattle.sc_expand.proofs.Terms.{AllByRecursion as Every, AreOneLine, Definition, Expands, Failure, HiddenToken as Hidden, IfSome, IsOneLine, Macros, TextExpands, definition_named, definition_of, escaped, has_no_newline, initial_macros, number_item, option_and_then, option_or, place_alone, predefined_macros, same_bytes, string_item, text_of_answer, token_of, unhidden, variable_definition}
 use Rattle.sc_model.specs.Space as space_model
 use Rattle.sc_model.specs.Space.{Space, Variable, VariableOption}
 use Rattle.sc_model.specs.Token.{Place, Token}
@@ -92,28 +92,3 @@ initial-one_line space config variables date time =
     one_line-from (initial_macros space config)
     (λ name. either-plain (definition_named (predefined_macros space.date space.time) name) (variable_definition space.variables config name)
     (named-plain (predefined_macros space.date space.time) predefined name) (variable-plain space.variables config name variables))
-
--- ---- the lists of all configurations
-
-passes-every : {A : Type 0} (s : Sets) (test : A → Bool) (list : List (Cond × A)) → Every (λ (item : Cond × A). IsNever s item.0.0 → ⊥) list
-    → ((c : List ℕ) → IsConfig s.arities c → Every (λ x. test x ≡ true) (items_at s list c)) → Every (λ (item : Cond × A). test item.1 ≡ true) list
-passes-every s test [] some h = tt
-passes-every {A} s test (item ∷ more) some h = (true_from_ne_false (test item.1) (λ fails. some.0 (record { none = λ c listed. never c listed fails })), passes-every s test more some.1 (λ c listed. rest (s.has item.0.0 c) c (h c listed)))
-  where
-    rest : (b : Bool) (c : List ℕ) → Every (λ x. test x ≡ true) (if b then item.1 ∷ items_at s more c else items_at s more c) → Every (λ x. test x ≡ true) (items_at s more c)
-    rest true c k = k.1
-    rest false c k = k
-
-    has : (b : Bool) (c : List ℕ) → Every (λ x. test x ≡ true) (if b then item.1 ∷ items_at s more c else items_at s more c) → test item.1 ≡ false → b ≡ false
-    has true c k fails = absurd (true≢false (sym k.0 ∙ fails))
-    has false c k fails = refl
-
-    never : (c : List ℕ) → IsConfig s.arities c → test item.1 ≡ false → s.has item.0.0 c ≡ false
-    never c listed fails = has (s.has item.0.0 c) c (h c listed) fails
-
--- An item that some configuration has passes a test that the items of each configuration pass.
-pub passes-all : {A : Type 0} (s : Sets) (test : A → Bool) (list : List (Cond × A)) → All (λ (item : Cond × A). IsNever s item.0.0 → ⊥) list
-    → ((c : List ℕ) → IsConfig s.arities c → All (λ x. test x ≡ true) (items_at s list c)) → All (λ (item : Cond × A). test item.1 ≡ true) list
-passes-all {A} s test list some h =
-    All-from_recursion (λ (item : Cond × A). test item.1 ≡ true) list
-    (passes-every s test list (recursion_from_All (λ (item : Cond × A). IsNever s item.0.0 → ⊥) list some) (λ c listed. recursion_from_All (λ x. test x ≡ true) (items_at s list c) (h c listed)))

@@ -4,7 +4,7 @@ use Rattle.c11_macros.specs.Runs.{End, Runs, Uses, alone, bad_call, bad_count, b
 use Rattle.sc_expand.proofs.Behind.{length-behind}
 use Rattle.sc_expand.proofs.Facts.{All-head, All-nil, All-tail, map-append, slice_get-front, slice_get_within}
 use Rattle.sc_expand.proofs.PhaseKeeps.{none-long, same-slice}
-use Rattle.sc_expand.proofs.Terms.{Agree, AreAlike, ComesAt, Cond, Definition, Form, HiddenToken as Hidden, InSegments, IsAlike, IsConfig, IsItself, IsSameName, IsSettling, IsSpan, Macros, Provenance, Sets, behind, behind_at, case_of, defined_case, form_case, function_like, is_function_like, is_looked_up, items_at, looked_up_at, looked_up_case, object_like, of_item, stays}
+use Rattle.sc_expand.proofs.Terms.{Agree, AreAlike, Cond, Definition, Form, HiddenToken as Hidden, InSegments, IsAlike, IsConfig, IsSameName, IsSettling, IsSpan, Macros, Provenance, Sets, behind, behind_at, case_of, defined_case, form_case, function_like, is_function_like, is_looked_up, items_at, looked_up_at, looked_up_case, object_like, of_item, stays}
 use Rattle.sc_expand.specs.Spans as spans
 use Rattle.sc_expand.specs.Thin.{InSpan, IsNth, IsThin, Stays}
 

@@ -4,7 +4,7 @@ use Rattle.sc_expand.proofs.Ending.{bared}
 use Rattle.sc_expand.proofs.Facts.{All-append, All-cons, All-head, All-nil, All-tail, IsConfig-Keeps, IsConfig-kept, and_parts, false_from_ne_true, text_later}
 use Rattle.sc_expand.proofs.Terms.{Cond, Expansion, Grows, Hidden, IsCond, IsConfig, IsHeldExpansion, IsHeldToken, Keeps, Macros, Sets, Stores, text_at}
 use Rattle.sc_expand.specs.Unchanged as unchanged
-use Rattle.sc_expand.specs.Unchanged.{DefinesNone, Drops, IsPushed, IsRestricted, IsUncalled, IsUndefined, LooksUpNone, Passes, empty}
+use Rattle.sc_expand.specs.Unchanged.{Drops, IsRestricted, IsUncalled, IsUndefined, LooksUpNone, Passes, empty}
 
 abbrev Item : Type 0
 Item = Cond × Hidden
@@ -28,9 +28,6 @@ pub both-Keeps : {old new : Sets} → Keeps old new → (a b : ℕ) → IsCond o
 both-Keeps keeps a b one two c listed = λ i. keeps.at a c one listed i && keeps.at b c two listed i
 
 module _ {T : Type 0} where
-  Own : Sets → Cond × T → Type 0
-  Own s item = IsCond s item.0.0
-
   pub restricted-append : (s : Sets) (live : ℕ) (xs ys us vs : List (Cond × T)) → IsRestricted s live xs us → IsRestricted s live ys vs → IsRestricted s live (xs ++ ys) (us ++ vs)
   restricted-append s live xs ys us vs empty second = second
   restricted-append s live xs ys us vs (unchanged.kept cond item list rest both some first) second =

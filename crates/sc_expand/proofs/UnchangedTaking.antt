@@ -11,7 +11,7 @@ use Rattle.sc_expand.proofs.Terms.{At, Comes, Cond, Denotes, Expansion, Grows, H
 use Rattle.sc_expand.proofs.UnchangedLemmas.{both-Keeps}
 use Rattle.sc_expand.specs.Taking as taking
 use Rattle.sc_expand.specs.Unchanged as unchanged
-use Rattle.sc_expand.specs.Unchanged.{IsPushed, IsRestricted, IsUncalled, IsUndefined, LooksUpNone, Passes}
+use Rattle.sc_expand.specs.Unchanged.{IsPushed, IsUncalled, IsUndefined, LooksUpNone, Passes}
 use Rattle.sc_macro.specs.declared.definition.Definition.{Definition}
 use Rattle.sc_subst.specs.declared.hidden.Hidden as declared
 

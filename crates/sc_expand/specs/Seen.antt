@@ -8,7 +8,7 @@ use Rattle.sc_base.specs.declared.id.Cond.{Cond}
 use Rattle.sc_base.specs.declared.id.Name.{Name}
 use Rattle.sc_base.specs.declared.place.Place.{Place}
 use Rattle.sc_base.specs.Seen.{seen_place}
-use Rattle.sc_expand.specs.Plain.{State, Waiting, scanning, waiting, expanding}
+use Rattle.sc_expand.specs.Plain.{State, Waiting, scanning, waiting}
 use Rattle.sc_expand.specs.declared.call.Call.{Call}
 use Rattle.sc_expand.specs.declared.call.Template.{Template}
 use Rattle.sc_expand.specs.declared.call.Template.TheVariants.{Parts, Refused}
@@ -125,16 +125,6 @@ pub record IsHeldFrame (st : Stores) (files : ℕ) (frame : Frame) : Type 0 wher
 pub record IsHeldEnclosing (st : Stores) (files : ℕ) (e : Enclosing) : Type 0 where
   pub frame : IsHeldFrame st files e.frame
   pub call : IsHeldCall st files e.call
-
--- ---- all frames
-
--- at a configuration: the frames below, the whole list first, and the one on top
-abbrev pub state_at : Stores → List Enclosing → Frame → List ℕ → State Place
-state_at st [] top c = state_of (view_at st top c)
-state_at st (e ∷ es) top c =
-    if st.sets.has e.call.cond.0 c
-    then expanding (seen_at st e.frame.out c) (seen_at st e.frame.work c) (waiting_at st e.call c) e.parameter (state_at st es top c)
-    else state_of (view_at st e.frame c)
 
 -- ---- faults
 

@@ -2,9 +2,8 @@ use Rattle.std.proofs.Common.{◌≡◌, ◌∙◌, ℕ, List, [], false, true, 
 use Rattle.sc_expand.proofs.AlikeLemmas.{AreAlike-Keeps, alike-of}
 use Rattle.sc_expand.proofs.BeginningLemmas.{first_gone, taken_out}
 use Rattle.sc_expand.proofs.Facts.{All-take, Denotes-self, IsConfig-Keeps, Keeps-trans, cases_Bool, items_at-Keeps}
-use Rattle.sc_expand.proofs.LastLemmas.{last-each, last-out}
+use Rattle.sc_expand.proofs.WorkListLemmas.{last-each, last-out, has_each-Keeps}
 use Rattle.sc_expand.proofs.Terms.{Cond, Hidden, IsCond, IsConfig, has_each, items_at}
-use Rattle.sc_expand.proofs.WorkListLemmas.{has_each-Keeps}
 use Rattle.sc_expand.proofs.beginning.take_out.Goals as goal
 
 pub returns : goal.returns

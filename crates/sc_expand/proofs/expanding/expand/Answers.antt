@@ -7,7 +7,7 @@ use Rattle.sc_expand.proofs.FootprintPlaces.{text-stops}
 use Rattle.sc_expand.proofs.PlainTables.{entry_names, within-table}
 use Rattle.sc_expand.proofs.SpanFootprints.{apart-stops}
 use Rattle.sc_expand.proofs.Terms.{AreAlike, Cond, DefinesNone, IsAlike, IsConfig, IsRestricted, Token, macros_at, provenance_of, seen_hidden}
-use Rattle.sc_expand.proofs.UnchangedAnswers.{answer-unchanged, no-more-faults, none-more}
+use Rattle.sc_expand.proofs.SettlingLemmas.{answer-unchanged, no-more-faults, none-more}
 use Rattle.sc_expand.proofs.expanding.expand.Goals as goal
 
 pub settle-requires-clause-held : goal.settle-requires-clause-held

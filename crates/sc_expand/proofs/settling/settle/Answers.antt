@@ -1,9 +1,8 @@
 use Rattle.std.proofs.Common.{ap, length, subst, sym, ◌∙◌, ℕ, List, map}
 use Rattle.sc_expand.proofs.Ending.{bared}
-use Rattle.sc_expand.proofs.SettlingLemmas.{begun-alike, begun-held, settled-alike, settled-held, settled-is}
+use Rattle.sc_expand.proofs.SettlingLemmas.{begun-alike, begun-held, settled-alike, settled-held, settled-is, looks-given, settled-unchanged}
 use Rattle.sc_expand.proofs.TakingParts.{none-found}
 use Rattle.sc_expand.proofs.Terms.{AreHeld, Cond, DefineAlike, Expansion, Extends, IsCond, IsConfig, IsHeldSettled, IsSettled, IsUntouched, Refusals, items_at, macros_at, provenance_of, seen_at, seen_hidden, stores}
-use Rattle.sc_expand.proofs.UnchangedAnswers.{looks-given, settled-unchanged}
 use Rattle.sc_expand.proofs.settling.settle.Goals as goal
 
 pub run-ran-requires-clause-held : goal.run-ran-requires-clause-held

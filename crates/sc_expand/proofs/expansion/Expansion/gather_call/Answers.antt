@@ -1,9 +1,8 @@
 use Rattle.std.proofs.Common.{◌≡◌, ℕ, List, All, Some, None, length, refl, sym, ap, subst, ◌∙◌, is_some, Option}
 use Rattle.sc_expand.proofs.BeginningLemmas.{in_some}
 use Rattle.sc_expand.proofs.Facts.{All-head, All-tail, Extends-refl, Keeps-trans}
-use Rattle.sc_expand.proofs.GatherFiles.{arguments-held}
+use Rattle.sc_expand.proofs.GatherTaking.{arguments-held, begun-gathered, function-form, head-held, left-grows, left-held, misfit-gathered, seen_fit}
 use Rattle.sc_expand.proofs.GatherSteps.{refused-alike, refused-ends, refused-held, refused-live, refused-other}
-use Rattle.sc_expand.proofs.GatherTaking.{begun-gathered, function-form, head-held, left-grows, left-held, misfit-gathered, seen_fit}
 use Rattle.sc_expand.proofs.SeenLemmas.{token-Grows}
 use Rattle.sc_expand.proofs.TakingSteps.{on-ok}
 use Rattle.sc_expand.proofs.Terms.{Grows, HasBegun, Hidden, IsHeldExpansion, IsHeldHidden, IsHeldToken, Name, Rest, arguments_for, function_like, option_map, parted, seen_arguments, seen_form, seen_list, stores}

@@ -3,7 +3,7 @@ use Rattle.sc_expand.proofs.AlikeGathering.{each-same-call}
 use Rattle.sc_expand.proofs.AlikeLemmas.{AreAlike-Keeps, IsAlike-Keeps, alike-of, in-whole, whole, whole-in, IsAlikeExpansion-Keeps, IsAlikeIn-Keeps}
 use Rattle.sc_expand.proofs.AlikeTaking.{alike-first, put-alike, same-long, takes-name, whole-same}
 use Rattle.sc_expand.proofs.Facts.{All-append, All-drop, Extends-refl, IsConfig-Keeps, IsConfig-kept, Keeps-trans, err_from_is_err_and}
-use Rattle.sc_expand.proofs.LastLemmas.{last-earlier, last-later}
+use Rattle.sc_expand.proofs.WorkListLemmas.{last-earlier, last-later, has_each-Keeps}
 use Rattle.sc_expand.proofs.PuttingOut.{pushed-some, some-Keeps}
 use Rattle.sc_expand.proofs.Rests.{some-same}
 use Rattle.sc_expand.proofs.SeenLemmas.{AreHeld-Grows, IsHeldExpansion-Grows, IsTable-Grows, token-Grows, macros_at-Grows, seen_hidden-Grows}
@@ -14,7 +14,6 @@ use Rattle.sc_expand.proofs.TakingTurns.{first-both, first-grew, first-item, fir
 use Rattle.sc_expand.proofs.Terms.{AreAlike, CallNextAlike, Cond, DefineNextAlike, Enclosing, Expansion, Extends, Grows, HasLast, HasPutOut, Hidden, IsAlikeEnclosing, IsAlikeExpansion, IsAlikeTaken, IsCond, IsConfig, IsFirstIn, IsFunctionLike, IsHeldExpansion, IsNever, IsPushed, KeepsLeft, Others, Span, TakesName, Turn, at, is_looked_up, macros_at, no_others, others_at, provenance_of, seen_at, seen_hidden, stores, text_of}
 use Rattle.sc_expand.proofs.UnchangedTaking.{first-undefined, stays-both, take-passes}
 use Rattle.sc_expand.proofs.WaitingTaking.{first-of-all, put-out-alike, put-out-keeps, put-out-left, stays-later}
-use Rattle.sc_expand.proofs.WorkListLemmas.{has_each-Keeps}
 use Rattle.sc_expand.proofs.expansion.Expansion.take.Goals as goal
 
 pub take_under-requires : goal.take_under-requires
