@@ -1,5 +1,5 @@
 -- Tokens that stand apart, as lists of them are put together and taken apart.
-use Rattle.std.proofs.Common.{◌≡◌, ℕ, suc, ◌+◌, Bool, List, [], ◌∷◌, ◌++◌, length, drop, take, get_or, map, append_assoc, refl, ap, sym, subst, ◌∙◌, arith}
+use Rattle.std.proofs.Common.{◌≡◌, ℕ, suc, ◌+◌, List, [], ◌∷◌, ◌++◌, length, drop, take, get_or, map, append_assoc, refl, ap, sym, subst, ◌∙◌, arith}
 use Rattle.std.proofs.lemmas.List.{append-nil, get_or-append-add, get_or-map, get_or_append_left, length-append, length-map, map-append, take-append-drop}
 use Rattle.std.proofs.lemmas.List.Elements.{All-append, All-map}
 use Rattle.std.proofs.lemmas.List.Kept.{AllPairs-cons}
@@ -14,7 +14,7 @@ use Rattle.sc_model.specs.Token.{in_file}
 use Rattle.sc_model.specs.declared.standard.Standard.{Standard}
 use Rattle.sc_prep.proofs.Positions.{lexed-apart}
 use Rattle.sc_prep.specs.Apart.{AreDifferent, GathersFrom, StandApart, tokens_in}
-use Rattle.sc_prep.specs.Closes.{IsWithin}
+use Rattle.sc_prep.specs.Closes.{IsPart}
 use Rattle.sc_prep.specs.Contents.{AreLinesOf}
 use Rattle.sc_prep.specs.declared.content.FileLines.{FileLines}
 use Rattle.sc_prep.specs.declared.walk.Walk.{Walk}
@@ -108,8 +108,8 @@ gathers-line line cond a b is = λ rest apart.
     tokens-under cond (t ∷ ts) = ap (λ xs. t ∷ xs) (tokens-under cond ts)
 
 -- only items of a list are left of it
-pub gathers-within : {old new : Sets} {t : List ℕ → Bool} (line : List Token) (a b : Walk) → IsWithin old a.gathered t new b.gathered → GathersFrom line a b
-gathers-within line a b within = λ rest apart. within.apart rest (apart-without (tokens_in a.gathered) line rest apart)
+pub gathers-part : {s : Sets} (line : List Token) (a b : Walk) → IsPart a.gathered s b.gathered → GathersFrom line a b
+gathers-part line a b part = λ rest apart. part.apart rest (apart-without (tokens_in a.gathered) line rest apart)
 
 -- ---- the tokens of a file
 

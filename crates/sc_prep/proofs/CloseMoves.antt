@@ -394,10 +394,10 @@ module _ (files names more : List (List ℕ)) {old mid new : Sets} (keeps : Keep
           group = subst (λ (g : Cond). IsCond new g.0) (sym puts.group) kept.group;
           acting = puts.acting.own;
           sections = subst (λ (v : Vec Section Global). All (OwnsSection new) v.items) (sym puts.sections) kept.sections;
-          gathered = puts.gathered.own;
+          gathered = puts.gathered.part.own;
           once = subst (λ (o : Vec OnceFile Global). OwnsOnce new o.items) (sym puts.once) kept.once;
           prepared = record {
-            list = subst (All IsOwn) (sym puts.list) (All-append IsOwn w.prepared.list puts.added kept.prepared.list puts.put.own);
+            list = subst (All IsOwn) (sym puts.list) (All-append IsOwn w.prepared.list puts.added kept.prepared.list puts.put.part.own);
             faults = subst (All IsOwnFault) (sym puts.faults) (All-append IsOwnFault w.prepared.faults.items e.faults.items kept.prepared.faults (λ k d h. later.own _ (answer.faults_own k d h)));
             live = puts.live.own;
           };
@@ -410,11 +410,11 @@ module _ (files names more : List (List ℕ)) {old mid new : Sets} (keeps : Keep
   closed-held =
       let Q : base.Fault → Type 0 = λ f. f.place.file.0 < length files in
       record {
-        gathered = puts.gathered.placed more (length files) (list-grown grows (length files) w.gathered held.gathered);
+        gathered = puts.gathered.part.placed more (length files) (list-grown grows (length files) w.gathered held.gathered);
         list =
             let P : Cond × base_token.Token → Type 0 = λ item. IsPlaced more (length files) item.1 in
             subst (All P) (sym puts.list)
-            (All-append P w.prepared.list puts.added (list-grown grows (length files) w.prepared.list held.list) (puts.put.placed more (length files) placed_answer));
+            (All-append P w.prepared.list puts.added (list-grown grows (length files) w.prepared.list held.list) (puts.put.part.placed more (length files) placed_answer));
         passed = λ k d h. refl;
         faults = subst (All Q) (sym puts.faults) (All-append Q w.prepared.faults.items e.faults.items held.faults answer.faults_placed);
         once = subst (λ (o : Vec OnceFile Global). AreOnceHeld (length files) o.items) (sym puts.once) held.once;
@@ -453,4 +453,4 @@ module _ (files names more : List (List ℕ)) {old mid new : Sets} (keeps : Keep
         (λ c now.
         let listed = IsConfig-kept keeps (IsConfig-kept later now) in
         subst (λ xs. All (λ (t : base_token.Token). is_plain more t ≡ true) xs) (sym (puts.put.at c (IsConfig-kept later now))) (added-plain c listed (old.has w.acting.0 c) refl))
-        puts.put.some))
+        puts.put.part.some))

@@ -21,6 +21,7 @@ pub mod Held
 pub mod InFile
 pub mod IncludeLeads
 pub mod LeadMoves
+pub mod LeftItems
 pub mod LineFootprints
 pub mod LineNumbers
 pub mod LineSteps
@@ -33,9 +34,10 @@ pub mod NameSteps
 pub mod NameStops
 pub mod NamedFiles
 pub mod NumberMoves
-pub mod PartFootprints
 pub mod OnceLemmas
 pub mod OnceMoves
+pub mod OwnNames
+pub mod PartFootprints
 pub mod Passing
 pub mod Plain
 pub mod PlainRuns
@@ -45,9 +47,9 @@ pub mod ReadContent
 pub mod Refusing
 pub mod RunLemmas
 pub mod SaidMoves
+pub mod SettleMoves
 pub mod SettledLists
 pub mod SettledText
-pub mod SettleMoves
 pub mod StageRefusals
 pub mod Stages
 pub mod Stopping

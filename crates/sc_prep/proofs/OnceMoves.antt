@@ -28,7 +28,7 @@ behind-macros true l s name = refl
 behind-macros false l s name = refl
 
 behind-text : (b : Bool) (l : Line) (s : State) (gathered list : List model.Token) → HasText s gathered list → HasText (if b then state_behind s l directive.Pragma s.macros else s) gathered list
-behind-text true l s gathered list has = record { before = has.before; out = has.out; run = has.run; settles = has.settles; put = has.put }
+behind-text true l s gathered list has = record { out = has.out; passes = has.passes; put = has.put }
 behind-text false l s gathered list has = has
 
 -- its file is marked in the configurations that act

@@ -1,17 +1,20 @@
 -- Where macros, text and names of files are spelled on one line, so is what the text expands to.
-use Rattle.std.proofs.Common.{◌≡◌, ℕ, true, List, [], ◌∷◌, All, Ok, refl, sym, ap, ◌∙◌}
+use Rattle.std.proofs.Common.{◌≡◌, ℕ, true, List, [], ◌∷◌, All, map, Ok, refl, sym, ap, ◌∙◌}
 use Rattle.std.proofs.lemmas.Bool.{and_parts, ne_eqb, not-true, not_from_false, or_from}
-use Rattle.std.proofs.lemmas.List.Elements.{All-from_recursion, All-weaker}
+use Rattle.std.proofs.lemmas.List.Elements.{All-from_recursion, All-map, All-weaker}
 use Rattle.std.specs.List.{AllByRecursion as Every, list_all}
 use Rattle.c11_macros.specs.Macros.{Macros, initial_macros}
-use Rattle.c11_macros.specs.Text.{TextExpands}
+use Rattle.c11_macros.specs.Hidden.{Hidden}
+use Rattle.c11_macros.specs.Runs.{Settles}
+use Rattle.c11_macros.specs.Text.{TextExpands, place_alone, token_of, unhidden}
 use Rattle.c11_macros.proofs.OneLineLists.{PlainToken}
+use Rattle.sc_expand.proofs.PlainLines.{settles-on_one_line}
 use Rattle.sc_expand.proofs.TextLines.{PlainOption, PlainVariable, initial-one_line, text-stays_on_one_line}
-use Rattle.sc_expand.specs.OneLine.{AreOneLine}
+use Rattle.sc_expand.specs.OneLine.{AreOneLine, IsOneLine}
 use Rattle.sc_model.specs.Bytes.{has_no_newline}
 use Rattle.sc_model.specs.Space as model
 use Rattle.sc_model.specs.Space.{Space, VariableOption}
-use Rattle.sc_model.specs.Token.{Token}
+use Rattle.sc_model.specs.Token.{Place, Token}
 use Rattle.sc_prep.specs.Printable.{IsPlainToken}
 use Rattle.sc_space.specs.Settings.{is_date_byte}
 use Rattle.sc_space.specs.Sound.{IsInRange, IsSound, IsSoundVariable}
@@ -23,6 +26,14 @@ pub expands-plain : (macros : Macros) → AreOneLine macros → (text output : L
 expands-plain macros lists text output plain expands =
     text-stays_on_one_line macros lists text output (spelled-plain text plain)
     (All-weaker IsPlainToken (λ (t : Token). has_no_newline t.place.file ≡ true) (λ t p. p.file) text (All-from_recursion IsPlainToken text plain)) expands
+
+-- and what it settles to
+pub settles-plain : (macros : Macros) → AreOneLine macros → (text : List Token) (out left : List (Hidden Place)) → Every IsPlainToken text → Settles place_alone macros (map unhidden text) out left → All PlainToken (map token_of out)
+settles-plain macros lists text out left plain settles =
+    let all = All-from_recursion IsPlainToken text plain in
+    let begun : All (IsOneLine place_alone) (map unhidden text) = All-map (IsOneLine place_alone) unhidden text (λ k t h. let p = all k t h in record { spelling = p.spelling; file = p.file }) in
+    let done = (settles-on_one_line place_alone macros lists (record { place = λ p. refl }) (map unhidden text) out left begun settles).0 in
+    All-map PlainToken token_of out (All-weaker (IsOneLine place_alone) (λ (t : Hidden Place). has_no_newline t.spelling ≡ true) (λ t h. h.spelling) out done)
 
 -- ---- the macros with which a configuration starts
 

@@ -39,6 +39,7 @@ use Rattle.sc_prep.specs.declared.entry.Entry.{Entry}
 use Rattle.sc_prep.specs.Printable.{ArePlainPaths, IsPlaced, IsPlainOrNewline, IsPlainState, IsPlainToken, ClosesPlain}
 use Rattle.sc_prep.specs.Simulates.{Covers, IsIn, Leads, PlainEach, Simulates}
 use Rattle.sc_prep.proofs.Plain.{expands-plain}
+use Rattle.sc_prep.proofs.SettledText.{text-every}
 use Rattle.sc_prep.proofs.PlainWalks.{IsPlainAt, PlainChange, every-append, lines-plain, read-plain, undefined-plain, carries-plain}
 use Rattle.sc_table.specs.Table.{macros_at}
 
@@ -159,13 +160,9 @@ placed-plain standard names files ts placed paths all =
 
 -- ---- what a barrier puts out
 
-unfaulty : (fault : Option Fault) → is_none fault ≡ true → fault ≡ None
+pub unfaulty : (fault : Option Fault) → is_none fault ≡ true → fault ≡ None
 unfaulty None e = refl
 unfaulty (Some fault) e = absurd (cc)
-
-every-behind : {A : Type 0} (C : A → Type 0) (xs ys : List A) → Every C (xs ++ ys) → Every C ys
-every-behind C [] ys all = all
-every-behind C (x ∷ xs) ys all = every-behind C xs ys all.1
 
 -- where the walk is at a machine that is so
 pub closes-plain : (s : Sets) (names files : List (List ℕ)) (w : Walk) (config : List ℕ) (m : Machine) → Simulates s names files w config m → IsPlainState m.state
@@ -176,7 +173,7 @@ closes-plain s names files w config m at plain live output expands =
     let macros : macros_at s names w.table config ≡ m.state.macros = λ i name. at.macros none name i in
     let has = at.text none in
     let here = subst (λ ms. TextExpands ms (map (seen names files) (items_at s w.gathered config)) (Ok output)) macros expands in
-    expands-plain m.state.macros plain.macros (map (seen names files) (items_at s w.gathered config)) output (every-behind IsPlainToken has.before _ (subst (Every IsPlainToken) has.run plain.run)) here
+    expands-plain m.state.macros plain.macros (map (seen names files) (items_at s w.gathered config)) output (text-every IsPlainToken m.state _ _ has plain.run) here
 
 -- the runs of such a walk expand to tokens that are spelled on one line
 pub each-closes-plain : {s : Sets} {names files : List (List ℕ)} {w : Walk} {from : Machine → Type 0} → PlainEach s names files w from → ClosesPlain s names files w

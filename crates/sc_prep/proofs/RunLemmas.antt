@@ -1,9 +1,6 @@
 -- The lists of a walk whose runs are closed.
-use Rattle.std.proofs.Common.{◌≡◌, ℕ, ◌+◌, ◌&&◌, not, Bool, true, false, List, [], ◌∷◌, ◌++◌, All, take, Some, append-nil, append_assoc, refl, sym, ap, subst, ◌∙◌, if◌then◌else◌}
-use Rattle.std.proofs.lemmas.List.{take_more}
-use Rattle.std.proofs.lemmas.List.Elements.{All-nil, All-cons, All-head, All-tail, All-get_or, All-push}
-use Rattle.std.proofs.lemmas.Option.{get_or_from_slice_get, slice_get_within}
-use Rattle.std.specs.Prelude.{slice_get}
+use Rattle.std.proofs.Common.{◌≡◌, ℕ, ◌&&◌, not, Bool, true, false, List, [], ◌∷◌, ◌++◌, All, append-nil, append_assoc, refl, sym, ap, subst, ◌∙◌, if◌then◌else◌}
+use Rattle.std.proofs.lemmas.List.Elements.{All-nil, All-cons, All-head, All-tail, All-push}
 use Rattle.sc_base.specs.declared.fault.Fault.{Fault}
 use Rattle.sc_base.specs.declared.id.Cond.{Cond}
 use Rattle.sc_base.specs.declared.token.Token.{Token}
@@ -14,7 +11,7 @@ use Rattle.sc_model.proofs.SetLemmas.{IsConfig-Keeps, IsConfig-kept, Denotes-Kee
 use Rattle.sc_model.specs.Sets.{Sets, IsConfig, IsCond, IsNever, Denotes, Keeps}
 use Rattle.sc_prep.proofs.ApartLemmas.{apart-without, tokens-push}
 use Rattle.sc_prep.specs.Apart.{StandApart, tokens_in}
-use Rattle.sc_prep.specs.Closes.{IsWithin, PutsOut, RefusesEach, has_none, is_empty}
+use Rattle.sc_prep.specs.Closes.{IsPart, IsWithin, PutsOut, RefusesEach, has_none, is_empty}
 use Rattle.sc_prep.specs.Printable.{ArePlaced, IsPlaced}
 use Rattle.sc_prep.specs.declared.walk.Walk.{Walk}
 
@@ -24,46 +21,17 @@ denotes-as f g same told = record { own = told.own; at = λ c listed. told.at c 
 never-back : {old new : Sets} (keeps : Keeps old new) (a : ℕ) → IsCond old a → IsNever new a → IsNever old a
 never-back keeps a own never = record { none = λ c listed. sym (keeps.at a c own listed) ∙ never.none c (IsConfig-Keeps keeps listed) }
 
--- ---- items in the configurations of a test
+-- ---- items of a list
 
--- the list stays within the other as the store grows
-pub within-later : {first old new : Sets} {items kept : List (Cond × Token)} (t : List ℕ → Bool) → Keeps first old → Keeps old new → IsWithin first items t old kept → IsWithin first items t new kept
-within-later {first} {old} {new} {items} {kept} t before keeps was = record {
+pub part-later : {old new : Sets} {items kept : List (Cond × Token)} → Keeps old new → IsPart items old kept → IsPart items new kept
+part-later keeps was = record {
   own = λ k d h. keeps.own _ (was.own k d h);
   some = λ k d h never. was.some k d h (never-back keeps _ (was.own k d h) never);
-  at = λ c listed. items_at-Keeps kept c keeps was.own (IsConfig-Keeps before listed) ∙ was.at c listed;
   placed = was.placed;
   apart = was.apart;
 }
 
--- the same told of the store before
-pub within-as : {old mid new : Sets} {items kept : List (Cond × Token)} (by t : List ℕ → Bool) → Keeps old mid → All (λ (item : Cond × Token). IsCond old item.0.0) items
-    → ((c : List ℕ) → IsConfig old.arities c → by c ≡ t c) → IsWithin mid items by new kept → IsWithin old items t new kept
-within-as {old} {mid} {new} {items} {kept} by t keeps own same was = record {
-  own = was.own;
-  some = was.some;
-  at = λ c listed. was.at c (IsConfig-Keeps keeps listed)
-      ∙ (ap (λ b. if b then items_at mid items c else []) (same c listed) ∙ ap (λ xs. if t c then xs else []) (items_at-Keeps items c keeps own listed));
-  placed = was.placed;
-  apart = was.apart;
-}
-
-one_without : (t h : Bool) (x : Token) (xs : List Token) → (h && t) ≡ false → (if t then xs else []) ≡ (if t then xs ++ (if h then x ∷ [] else []) else [])
-one_without true true x xs none = absurd (cc)
-one_without true false x xs none = sym (append-nil xs)
-one_without false h x xs none = refl
-
-one_within : (t h : Bool) (x : Token) (xs : List Token) → (if t then xs else []) ++ (if h && t then x ∷ [] else []) ≡ (if t then xs ++ (if h then x ∷ [] else []) else [])
-one_within true true x xs = refl
-one_within true false x xs = refl
-one_within false true x xs = refl
-one_within false false x xs = refl
-
-module _ {first old new : Sets} (before : Keeps first old) (keeps : Keeps old new) (items kept : List (Cond × Token)) (cond by part : Cond) (x : Token)
-    (part_is : Denotes new part.0 (λ c. first.has cond.0 c && first.has by.0 c)) (was : IsWithin first items (first.has by.0) old kept) where
-  listed_now : {c : List ℕ} → IsConfig first.arities c → IsConfig new.arities c
-  listed_now listed = IsConfig-Keeps keeps (IsConfig-Keeps before listed)
-
+module _ {s : Sets} (items kept : List (Cond × Token)) (cond : Cond) (x : Token) (was : IsPart items s kept) where
   front-placed : (names : List (List ℕ)) (files : ℕ) → ArePlaced names files (items ++ (cond, x) ∷ []) → ArePlaced names files items × IsPlaced names files x
   front-placed names files all = parts items all
     where
@@ -73,39 +41,65 @@ module _ {first old new : Sets} (before : Keeps first old) (keeps : Keeps old ne
           let rest = parts ys (All-tail (λ (item : Cond × Token). IsPlaced names files item.1) y (ys ++ (cond, x) ∷ []) all) in
           (All-cons (λ (item : Cond × Token). IsPlaced names files item.1) y ys (All-head (λ (item : Cond × Token). IsPlaced names files item.1) y (ys ++ (cond, x) ∷ []) all) rest.0, rest.1)
 
-  -- an item that no configuration of the test has
-  pub within-none : IsNever new part.0 → IsWithin first (items ++ (cond, x) ∷ []) (first.has by.0) new kept
-  within-none never =
-      let same = within-later (first.has by.0) before keeps was in
-      record {
-        own = same.own;
-        some = same.some;
-        at = λ c listed.
-            same.at c listed
-            ∙ (one_without (first.has by.0 c) (first.has cond.0 c) x (items_at first items c) (sym (part_is.at c (listed_now listed)) ∙ never.none c (listed_now listed))
-            ∙ ap (λ xs. if first.has by.0 c then xs else []) (sym (items_at-append first items ((cond, x) ∷ []) c)));
-        placed = λ names files all. same.placed names files (front-placed names files all).0;
-        apart = λ rest all. same.apart rest (apart-without (tokens_in items) (x ∷ []) rest (subst StandApart (tokens-push items cond x rest) all));
-      }
+  -- one that no configuration has is left out
+  pub part-without : IsPart (items ++ (cond, x) ∷ []) s kept
+  part-without = record {
+    own = was.own;
+    some = was.some;
+    placed = λ names files all. was.placed names files (front-placed names files all).0;
+    apart = λ rest all. was.apart rest (apart-without (tokens_in items) (x ∷ []) rest (subst StandApart (tokens-push items cond x rest) all));
+  }
 
-  -- an item that some have
-  pub within-more : (IsNever new part.0 → ⊥) → IsWithin first (items ++ (cond, x) ∷ []) (first.has by.0) new (kept ++ (part, x) ∷ [])
-  within-more some =
-      let same = within-later (first.has by.0) before keeps was in
-      record {
-        own = All-push (λ (item : Cond × Token). IsCond new item.0.0) kept (part, x) same.own part_is.own;
-        some = All-push (λ (item : Cond × Token). IsNever new item.0.0 → ⊥) kept (part, x) same.some some;
-        at = λ c listed.
-            items_at-append new kept ((part, x) ∷ []) c
-            ∙ (ap (λ xs. xs ++ (if new.has part.0 c then x ∷ [] else [])) (same.at c listed)
-            ∙ (ap (λ b. (if first.has by.0 c then items_at first items c else []) ++ (if b then x ∷ [] else [])) (part_is.at c (listed_now listed))
-            ∙ (one_within (first.has by.0 c) (first.has cond.0 c) x (items_at first items c)
-            ∙ ap (λ xs. if first.has by.0 c then xs else []) (sym (items_at-append first items ((cond, x) ∷ []) c)))));
-        placed = λ names files all.
-            let parts = front-placed names files all in
-            All-push (λ (item : Cond × Token). IsPlaced names files item.1) kept (part, x) (same.placed names files parts.0) parts.1;
-        apart = λ rest all. subst StandApart (sym (tokens-push kept part x rest)) (same.apart (x ∷ rest) (subst StandApart (tokens-push items cond x rest) all));
-      }
+  -- one that some configuration has is kept
+  pub part-with : (part : Cond) → IsCond s part.0 → (IsNever s part.0 → ⊥) → IsPart (items ++ (cond, x) ∷ []) s (kept ++ (part, x) ∷ [])
+  part-with part own some = record {
+    own = All-push (λ (item : Cond × Token). IsCond s item.0.0) kept (part, x) was.own own;
+    some = All-push (λ (item : Cond × Token). IsNever s item.0.0 → ⊥) kept (part, x) was.some some;
+    placed = λ names files all.
+        let parts = front-placed names files all in
+        All-push (λ (item : Cond × Token). IsPlaced names files item.1) kept (part, x) (was.placed names files parts.0) parts.1;
+    apart = λ rest all. subst StandApart (sym (tokens-push kept part x rest)) (was.apart (x ∷ rest) (subst StandApart (tokens-push items cond x rest) all));
+  }
+
+-- ---- items in the configurations of a test
+
+-- the list stays within the other as the store grows
+pub within-later : {first old new : Sets} {items kept : List (Cond × Token)} (t : List ℕ → Bool) → Keeps first old → Keeps old new → IsWithin first items t old kept → IsWithin first items t new kept
+within-later {kept = kept} t before keeps was = record {
+  part = part-later keeps was.part;
+  at = λ c listed. items_at-Keeps kept c keeps was.part.own (IsConfig-Keeps before listed) ∙ was.at c listed;
+}
+
+-- the same told of the store before
+pub within-as : {old mid new : Sets} {items kept : List (Cond × Token)} (by t : List ℕ → Bool) → Keeps old mid → All (λ (item : Cond × Token). IsCond old item.0.0) items
+    → ((c : List ℕ) → IsConfig old.arities c → by c ≡ t c) → IsWithin mid items by new kept → IsWithin old items t new kept
+within-as {old} {mid} {new} {items} {kept} by t keeps own same was = record {
+  part = was.part;
+  at = λ c listed. was.at c (IsConfig-Keeps keeps listed)
+      ∙ (ap (λ b. if b then items_at mid items c else []) (same c listed) ∙ ap (λ xs. if t c then xs else []) (items_at-Keeps items c keeps own listed));
+}
+
+one_within : (t h : Bool) (x : Token) (xs : List Token) → (if t then xs else []) ++ (if h && t then x ∷ [] else []) ≡ (if t then xs ++ (if h then x ∷ [] else []) else [])
+one_within true true x xs = refl
+one_within true false x xs = refl
+one_within false true x xs = refl
+one_within false false x xs = refl
+
+-- an item more
+pub within-next : {first old new : Sets} {items kept next : List (Cond × Token)} (by part : Cond) (item : Cond × Token) → Keeps first old → Keeps old new → IsWithin first items (first.has by.0) old kept
+    → Denotes new part.0 (λ c. first.has item.0.0 c && first.has by.0 c) → IsPart (items ++ item ∷ []) new next
+    → ((c : List ℕ) → IsConfig new.arities c → items_at new next c ≡ items_at new kept c ++ (if new.has part.0 c then item.1 ∷ [] else []))
+    → IsWithin first (items ++ item ∷ []) (first.has by.0) new next
+within-next {first} {old} {new} {items} {kept} by part item before keeps was part_is is_part pushed = record {
+  part = is_part;
+  at = λ c listed.
+      let mid = IsConfig-Keeps before listed in
+      let now = IsConfig-Keeps keeps mid in
+      pushed c now
+      ∙ (ap (λ xs. xs ++ (if new.has part.0 c then item.1 ∷ [] else [])) (items_at-Keeps kept c keeps was.part.own mid ∙ was.at c listed)
+      ∙ (ap (λ b. (if first.has by.0 c then items_at first items c else []) ++ (if b then item.1 ∷ [] else [])) (part_is.at c now)
+      ∙ (one_within (first.has by.0 c) (first.has item.0.0 c) item.1 (items_at first items c) ∙ ap (λ xs. if first.has by.0 c then xs else []) (sym (items_at-append first items (item ∷ []) c)))));
+}
 
 -- ---- refusals
 
@@ -121,7 +115,7 @@ pub and_assoc : (a b c : Bool) → ((a && b) && c) ≡ (a && (b && c))
 and_assoc true b c = refl
 and_assoc false b c = refl
 
-and-true : (a : Bool) → a ≡ (a && true)
+pub and-true : (a : Bool) → a ≡ (a && true)
 and-true true = refl
 and-true false = refl
 
@@ -210,16 +204,3 @@ puts-out {old} {mid} {new} keeps later w v next e added refuses same list put ga
   put = put;
   gathered = gathered;
 }
-
--- ---- one item more
-
-pub take-one : {X : Type 0} (xs : List X) (i : ℕ) (x : X) → slice_get xs i ≡ Some x → take (i + 1) xs ≡ take i xs ++ x ∷ []
-take-one xs i x at = take_more xs i x (slice_get_within xs i x at) ∙ ap (λ y. take i xs ++ y ∷ []) (get_or_from_slice_get xs i x x at)
-
-pub All-at : {X : Type 0} (P : X → Type 0) (xs : List X) (i : ℕ) (x : X) → slice_get xs i ≡ Some x → All P xs → P x
-All-at P xs i x at all = subst P (get_or_from_slice_get xs i x x at) (All-get_or P xs i x (slice_get_within xs i x at) all)
-
-pub append-one : (front now next items : List (Cond × Token)) (i : ℕ) (x : Cond × Token) → now ≡ front ++ take i items → next ≡ now ++ x ∷ [] → slice_get items i ≡ Some x
-    → next ≡ front ++ take (i + 1) items
-append-one front now next items i x was one at =
-    one ∙ (ap (λ ys. ys ++ x ∷ []) was ∙ (append_assoc front (take i items) (x ∷ []) ∙ ap (λ ys. front ++ ys) (sym (take-one items i x at))))

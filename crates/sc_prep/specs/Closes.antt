@@ -10,14 +10,17 @@ use Rattle.sc_prep.specs.declared.walk.Walk.{Walk}
 use Rattle.sc_prep.specs.Apart.{StandApart, tokens_in}
 use Rattle.sc_prep.specs.Printable.{ArePlaced}
 
--- the list has the items of another in the configurations of a test, and none that has no
--- configuration
-pub record IsWithin (old : Sets) (items : List (Cond × Token)) (test : List ℕ → Bool) (new : Sets) (kept : List (Cond × Token)) : Type 0 where
-  pub own : All (λ item. IsCond new item.0.0) kept
-  pub some : All (λ item. IsNever new item.0.0 → ⊥) kept
-  pub at : (c : List ℕ) → IsConfig old.arities c → items_at new kept c ≡ (if test c then items_at old items c else [])
+-- items of a list, each of which some configuration has
+pub record IsPart (items : List (Cond × Token)) (s : Sets) (kept : List (Cond × Token)) : Type 0 where
+  pub own : All (λ item. IsCond s item.0.0) kept
+  pub some : All (λ item. IsNever s item.0.0 → ⊥) kept
   pub placed : (names : List (List ℕ)) (files : ℕ) → ArePlaced names files items → ArePlaced names files kept
   pub apart : (rest : List Token) → StandApart (tokens_in items ++ rest) → StandApart (tokens_in kept ++ rest)
+
+-- the items of a list in the configurations of a test
+pub record IsWithin (old : Sets) (items : List (Cond × Token)) (test : List ℕ → Bool) (new : Sets) (kept : List (Cond × Token)) : Type 0 where
+  pub part : IsPart items new kept
+  pub at : (c : List ℕ) → IsConfig old.arities c → items_at new kept c ≡ (if test c then items_at old items c else [])
 
 abbrev pub is_empty : {A : Type 0} → List A → Bool
 is_empty [] = true

@@ -1,10 +1,11 @@
-ghost use Rattle.std.specs.Prelude.{◌≡◌, ℕ, ◌<◌, ◌++◌, ◌∷◌, [], List, All, true, length, IfErr, IfOk, OnOk};
+ghost use Rattle.std.specs.Prelude.{◌≡◌, ℕ, ◌<◌, ◌++◌, ◌∷◌, [], List, All, true, length, IfErr, IfOk, OnOk, if◌then◌else◌};
 ghost use Rattle.sc_base.specs.declared.token.Token as base;
 ghost use Rattle.sc_base.specs.declared.id.Cond.{Cond};
 ghost use Rattle.c11_directives.specs.Footprints.{NameHas};
+ghost use Rattle.sc_guarded.specs.Items.{items_at};
 ghost use Rattle.sc_model.specs.Growth.{Extends};
-ghost use Rattle.sc_model.specs.Sets.{Sets, IsCond, Keeps};
-ghost use Rattle.sc_prep.specs.Closes.{IsWithin, PutsOut, RefusesEach};
+ghost use Rattle.sc_model.specs.Sets.{IsCond, IsConfig, Keeps};
+ghost use Rattle.sc_prep.specs.Closes.{IsPart, IsWithin, PutsOut, RefusesEach};
 ghost use Rattle.sc_prep.specs.Apart.{tokens_in};
 ghost use Rattle.sc_prep.specs.Machine.{acts};
 ghost use Rattle.sc_prep.specs.Simulates.{Closed, Owns};
@@ -173,34 +174,29 @@ pub fn within<C: Conditions>(
     let mut kept = Guarded::new(alloc)?;
     for index in 0..items.len() {
         let item = items.item(index);
-        put_within(conds, &mut kept, item.0, *item.1, by)?;
+        let part = conds.apply_and(item.0, by)?;
+        push_some(conds, &mut kept, part, *item.1)?;
     }
     Ok(kept)
 }
 
-/// Puts a token at the end, in the configurations of `by`, where it has some.
-#[tactic(auto, using(sc_model::proofs::SetLemmas::conditions))]
-fn put_within<C: Conditions>(
-    conds: &mut C,
+/// Puts an item of a list at the end of others of it, where some configuration has it.
+pub fn push_some<C: Conditions>(
+    conds: &C,
     kept: &mut Guarded<Token>,
     cond: Cond,
     token: Token,
-    by: Cond,
 ) -> Result<(), OutOfMemory>
-    requires own { All (λ item. IsCond (C.sets conds.old) item.0.0) kept.old }
-    requires cond_own { IsCond (C.sets conds.old) cond.0 }
-    requires by_own { IsCond (C.sets conds.old) by.0 }
-    ensures puts { OnOk result ((first : Sets) (items : List (Cond × base.Token)) → Keeps first (C.sets conds.old) → IsCond first cond.0 → IsCond first by.0
-        → IsWithin first items (first.has by.0) (C.sets conds.old) kept.old → IsWithin first (items ++ (cond, token) ∷ []) (first.has by.0) (C.sets conds.new) kept.new) }
-
-    // at every outcome
-    ensures keeps { Keeps (C.sets conds.old) (C.sets conds.new) }
+    requires { IsCond (C.sets conds.now) cond.0 }
+    ensures part { OnOk result ((items : List (Cond × base.Token)) (item : Cond) → IsPart items (C.sets conds.now) kept.old
+        → IsPart (items ++ (item, token) ∷ []) (C.sets conds.now) kept.new) }
+    ensures at { OnOk result ((c : List ℕ) → IsConfig (C.sets conds.now).arities c → items_at (C.sets conds.now) kept.new c
+        ≡ items_at (C.sets conds.now) kept.old c ++ (if (C.sets conds.now).has cond.0 c then token ∷ [] else [])) }
 {
-    let part = conds.apply_and(cond, by)?;
-    if conds.is_never(part) {
+    if conds.is_never(cond) {
         return Ok(());
     }
-    kept.push(part, token)?;
+    kept.push(cond, token)?;
     Ok(())
 }
 

@@ -1,21 +1,28 @@
 use Rattle.std.proofs.Common.{List, sym, subst, take}
 use Rattle.sc_base.specs.declared.id.Cond.{Cond}
 use Rattle.sc_base.specs.declared.token.Token.{Token}
-use Rattle.sc_model.proofs.SetLemmas.{Keeps-trans}
+use Rattle.sc_expand.proofs.AlikeLemmas.{All-at}
+use Rattle.sc_expand.proofs.Ending.{take-next}
+use Rattle.sc_model.proofs.SetLemmas.{Denotes-Keeps, Denotes-self, Keeps-trans}
 use Rattle.sc_model.specs.Sets.{IsCond}
 use Rattle.sc_prep.specs.Closes.{IsWithin}
-use Rattle.sc_prep.proofs.RunLemmas.{All-at, take-one}
+use Rattle.sc_prep.proofs.RunLemmas.{part-later, within-next}
 use Rattle.sc_prep.proofs.closing.within.Goals as goal
 
 pub loop-index-preserved : goal.loop-index-preserved
 loop-index-preserved g c =
     let first = g.C.Conditions.sets c.args.conds.now in
     let items = c.args.items.now in
-    let own = All-at (λ (item : Cond × Token). IsCond first item.0.0) items c.loop-index.index _ c.item-item.ensures c.requires.own in
+    let i = c.loop-index.index in
+    let was = c.loop-index.invariant in
+    let item : Cond × Token = (c.item-item.result.0, c.item-item.result.1.now) in
+    let own = All-at (λ (item : Cond × Token). IsCond first item.0.0) items i item c.item-item.ensures c.requires.own in
+    let keeps = c.in_ok-part.ensures.keeps in
+    let now = g.C.Conditions.sets c.apply_and.new.self in
+    let part_is = c.in_ok-part.ensures.meaning (first.has item.0.0) (first.has c.args.by.0) (Denotes-Keeps was.keeps (Denotes-self first item.0.0 own)) (Denotes-Keeps was.keeps (Denotes-self first c.args.by.0 c.requires.by_own)) in
     record {
-      within =
-          subst (λ (xs : List (Cond × Token)). IsWithin first xs (first.has c.args.by.0) (g.C.Conditions.sets c.put_within.new.conds) c.put_within.new.kept)
-          (sym (take-one items c.loop-index.index _ c.item-item.ensures))
-          (c.in_ok-put_within.ensures.puts first (take c.loop-index.index items) c.loop-index.invariant.keeps own c.requires.by_own c.loop-index.invariant.within);
-      keeps = Keeps-trans c.loop-index.invariant.keeps c.in_ok-put_within.ensures.keeps;
+      within = subst (λ (xs : List (Cond × Token)). IsWithin first xs (first.has c.args.by.0) now c.push_some.new.kept) (sym (take-next items i item c.item-item.ensures))
+          (within-next c.args.by c.in_ok-part.part item was.keeps keeps was.within part_is
+          (c.in_ok-push_some.ensures.part (take i items) item.0 (part-later keeps was.within.part)) c.in_ok-push_some.ensures.at);
+      keeps = Keeps-trans was.keeps keeps;
     }

@@ -2,7 +2,7 @@ use Rattle.std.proofs.Common.{◌≡◌, rules, true, []}
 use Rattle.c11_directives.specs.Footprints.{NameHas}
 use Rattle.sc_expand.proofs.FootprintLemmas.{expand-stops}
 use Rattle.sc_model.proofs.SetLemmas.{Keeps-trans}
-use Rattle.sc_prep.proofs.ApartLemmas.{gathers-within}
+use Rattle.sc_prep.proofs.ApartLemmas.{gathers-part}
 use Rattle.sc_prep.proofs.CloseMoves.{closed-held, closed-plain, closes}
 use Rattle.sc_prep.proofs.NameStops.{run-stops}
 use Rattle.sc_prep.proofs.PlainRuns.{each-closes-plain}
@@ -32,7 +32,7 @@ returns-clause-closes g c =
       simulates = closes files names more x.keeps later x.names w next e stored.owns stored.table stored.held x.expands x.others x.held puts;
       held = closed-held files names more x.keeps later x.names w next e stored.owns stored.table stored.held x.expands x.others x.held puts;
       plain = λ each was. closed-plain files names more x.keeps later x.names w next e stored.owns stored.table stored.held x.expands x.others x.held puts (each-closes-plain each) was;
-      gathers = gathers-within [] w next puts.gathered;
+      gathers = gathers-part [] w next puts.gathered.part;
     }
 
 pub returns-clause-keeps : goal.returns-clause-keeps
