@@ -1,23 +1,9 @@
 -- Tokens that stand apart, as lists of them are put together and taken apart.
-use Rattle.std.proofs.Common.{◌≡◌, ℕ, suc, ◌+◌, List, [], ◌∷◌, ◌++◌, length, drop, take, get_or, map, append_assoc, refl, ap, sym, subst, ◌∙◌, arith}
-use Rattle.std.proofs.lemmas.List.{append-nil, get_or-append-add, get_or-map, get_or_append_left, length-append, length-map, map-append, take-append-drop}
-use Rattle.std.proofs.lemmas.List.Elements.{All-append, All-map}
-use Rattle.std.proofs.lemmas.List.Kept.{AllPairs-cons}
-use Rattle.std.specs.Prelude.{All, AllPairs}
-use Rattle.sc_base.specs.declared.id.Cond.{Cond}
-use Rattle.sc_base.specs.declared.token.Token.{Token}
-use Rattle.sc_base.specs.Seen.{position_of, seen}
-use Rattle.sc_guarded.proofs.ItemLemmas.{under}
-use Rattle.sc_model.specs.Sets.{Sets}
+use Rattle.std.proofs.Common.{◌≡◌, ℕ, suc, ◌+◌, List, [], ◌∷◌, ◌++◌, length, drop, take, get_or, map, append_assoc, refl, ap, sym, subst, ◌∙◌, arith, All, AllPairs}
 use Rattle.sc_model.specs.Token as model
-use Rattle.sc_model.specs.Token.{in_file}
-use Rattle.sc_model.specs.declared.standard.Standard.{Standard}
+use Rattle.sc_prep.proofs.Facts.{All-append, All-map, AllPairs-cons, append-nil, get_or-append-add, get_or-map, get_or_append_left, length-append, length-map, map-append, take-append-drop, under}
 use Rattle.sc_prep.proofs.Positions.{lexed-apart}
-use Rattle.sc_prep.specs.Apart.{AreDifferent, GathersFrom, StandApart, tokens_in}
-use Rattle.sc_prep.specs.Closes.{IsPart}
-use Rattle.sc_prep.specs.Contents.{AreLinesOf}
-use Rattle.sc_prep.specs.declared.content.FileLines.{FileLines}
-use Rattle.sc_prep.specs.declared.walk.Walk.{Walk}
+use Rattle.sc_prep.proofs.Terms.{AreDifferent, AreLinesOf, Cond, FileLines, GathersFrom, IsPart, Sets, StandApart, Standard, Token, Walk, in_file, position_of, seen, tokens_in}
 
 module _ {A : Type 0} (R : A → A → Type 0) where
   pub pairs-head : (x : A) (xs : List A) → AllPairs R (x ∷ xs) → All (R x) xs

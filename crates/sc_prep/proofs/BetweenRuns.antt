@@ -1,14 +1,7 @@
 -- Where the run of a machine was closed.
-use Rattle.std.proofs.Common.{◌≡◌, ◌&&◌, Bool, true, false, List, [], Option, Some, None, Result, Ok, Err, if◌then◌else◌, refl, ap, ◌∙◌}
-use Rattle.std.specs.Prelude.{IfOk, ℕ, is_none}
-use Rattle.c11_directives.specs.declared.directive.Directive.{Directive}
-use Rattle.c11_directives.specs.Lines.{Line}
-use Rattle.c11_directives.specs.Pre.{Context, File, State, Carries, changed, not_changed, not_expanded, numbered, not_numbered, no_header, too_deep, included, Closes, closed, refused, Enters, too_large, unended, badly_nested, stopped_inside, walked, Includes, missing, left_out, entered, back, put_out}
-use Rattle.c11_macros.specs.Results.{result_map}
-use Rattle.sc_model.specs.Fault.{Fault}
+use Rattle.std.proofs.Common.{◌≡◌, ◌&&◌, Bool, true, false, List, [], Option, Some, None, Result, Ok, Err, if◌then◌else◌, refl, ap, ◌∙◌, IfOk, ℕ, is_none}
 use Rattle.sc_model.specs.Token.{Place, Token}
-use Rattle.sc_prep.specs.Machine.{Machine, acts, arriving, closing_run}
-use Rattle.sc_prep.specs.Simulates.{IsBetweenRuns}
+use Rattle.sc_prep.proofs.Terms.{Carries, Closes, Context, Directive, Enters, Fault, File, Includes, IsBetweenRuns, Line, Machine, State, acts, arriving, back, badly_nested, changed, closed, closing_run, entered, included, left_out, missing, no_header, not_changed, not_expanded, not_numbered, numbered, put_out, refused, result_map, stopped_inside, too_deep, too_large, unended, walked}
 
 -- ---- the run of a state
 

@@ -1,23 +1,12 @@
 -- The alternatives of a list are those of its branches.
 use Rattle.std.proofs.Common.{◌≡◌, ℕ, zero, suc, ◌+◌, ◌<◌, ◌≤◌, ◌⊎◌, inl, inr, Bool, true, false, List, [], ◌∷◌, ◌++◌, take, All, map, length, get_or, refl, sym, ap, subst, ◌∙◌, arith, if◌then◌else◌}
-use Rattle.std.proofs.lemmas.Bool.{cases_lt}
-use Rattle.std.proofs.lemmas.List.{length-map, map-append}
-use Rattle.std.proofs.lemmas.List.Elements.{All-map}
-use Rattle.sc_base.specs.declared.id.Cond.{Cond}
-use Rattle.sc_base.specs.declared.token.Token.{Token}
-use Rattle.sc_guarded.proofs.ItemLemmas.{map-one}
-use Rattle.sc_guarded.specs.Items.{items_at}
 use Rattle.sc_hoist.proofs.PartLemmas.{one_list}
 use Rattle.sc_hoist.specs.Branches.{AreBranches, lists_at}
-use Rattle.sc_hoist.specs.declared.branch.Branch.{Branch}
-use Rattle.sc_hoist.specs.Places.{places_at, places_from}
-use Rattle.sc_if.proofs.AnswerLemmas.{tokens_at-All, tokens_at-places}
-use Rattle.sc_if.specs.Decided.{tokens_at}
-use Rattle.sc_model.proofs.SetLemmas.{IsConfig-kept}
-use Rattle.sc_model.specs.Sets.{Sets, IsCond, IsConfig, IsNever, Keeps}
+use Rattle.sc_prep.proofs.Facts.{All-map, IsConfig-kept, cases_lt, length-map, map-append, map-one, tokens_at-All, tokens_at-places}
+use Rattle.sc_prep.proofs.ListsAt.{all-unmap, map-next}
+use Rattle.sc_prep.proofs.Terms.{Branch, Cond, IsCond, IsConfig, IsNever, Keeps, Sets, Token, items_at, places_at, places_from, tokens_at}
 use Rattle.sc_prep.specs.Alternatives.{EachToken, OwnsEach, alternative_tokens, branch_tokens, tokens_in}
 use Rattle.sc_prep.specs.declared.alternatives.Alternative.{Alternative}
-use Rattle.sc_prep.proofs.ListsAt.{all-unmap, map-next}
 
 -- ---- places
 

@@ -1,43 +1,16 @@
 -- What closing the runs does at each configuration.
-use Rattle.std.proofs.Common.{◌≡◌, ℕ, ◌<◌, ◌&&◌, not, Bool, true, false, List, [], ◌∷◌, ◌++◌, All, map, reverse, length, Vec, Global, Option, Some, None, Result, Ok, Err, append-nil, refl, sym, ap, subst, ◌∙◌, arith, if◌then◌else◌}
-use Rattle.std.proofs.lemmas.Bool.{true≢false}
-use Rattle.std.proofs.lemmas.List.{map-append}
-use Rattle.std.proofs.lemmas.List.Elements.{All-nil, All-cons, All-head, All-tail, All-append}
-use Rattle.std.specs.Option.{option_to_list}
-use Rattle.std.specs.Prelude.{is_none, unwrap_or}
+use Rattle.std.proofs.Common.{◌≡◌, ℕ, ◌<◌, ◌&&◌, not, Bool, true, false, List, [], ◌∷◌, ◌++◌, All, map, reverse, length, Vec, Global, Option, Some, None, Result, Ok, Err, append-nil, refl, sym, ap, subst, ◌∙◌, arith, if◌then◌else◌, is_none}
 use Rattle.c11_macros.specs.Expansion.{empty}
-use Rattle.c11_directives.specs.Pre.{put_out}
-use Rattle.c11_macros.specs.Text.{TextExpands, token_of}
-use Rattle.sc_base.proofs.Growth.{Extends-within}
 use Rattle.sc_base.specs.declared.fault.Fault as base
-use Rattle.sc_base.specs.declared.id.Cond.{Cond}
 use Rattle.sc_base.specs.declared.token.Token as base_token
-use Rattle.sc_base.specs.Seen.{IsHeld, seen, text_at}
-use Rattle.sc_expand.specs.Answers.{IsEmpty, IsExpanded, IsHeldAnswer, Stands}
-use Rattle.sc_guarded.proofs.ItemLemmas.{faults_at-append, faults_at-Keeps, items_at-append, items_at-Keeps}
-use Rattle.sc_guarded.specs.Items.{faults_at, items_at, seen_fault}
-use Rattle.sc_guarded.specs.declared.expanded.Expanded.{Expanded}
-use Rattle.sc_model.proofs.SetLemmas.{IsConfig-Keeps, IsConfig-kept, Keeps-trans}
-use Rattle.sc_model.specs.Bytes.{has_no_newline}
-use Rattle.sc_model.specs.Fault.{Fault}
-use Rattle.sc_model.specs.Growth.{Extends}
-use Rattle.sc_model.specs.Sets.{Sets, IsConfig, IsCond, IsNever, Keeps}
 use Rattle.sc_model.specs.Token.{Token, name_of}
-use Rattle.sc_prep.specs.Closes.{PutsOut, has_none, is_empty}
-use Rattle.sc_prep.specs.Machine.{Machine, acts, closing_run}
-use Rattle.sc_prep.specs.Printable.{AllPass, ArePlaced, ClosesPlain, IsHeldWalk, IsPlaced, any_token, is_plain}
-use Rattle.sc_prep.specs.Simulates.{Arrives, Closed, Owns, OwnsSection, Simulates, SimulatesOneOf, section_at}
-use Rattle.sc_prep.specs.declared.once.OnceFile.{OnceFile}
-use Rattle.sc_prep.specs.declared.walk.Section.{Section}
-use Rattle.sc_prep.specs.Once.{AreOnceHeld, OwnsOnce, once_at}
-use Rattle.sc_prep.specs.declared.walk.Walk.{Walk}
-use Rattle.sc_table.proofs.Growth.{IsTable-Extends, IsTable-Keeps, macros_at-Extends}
-use Rattle.sc_table.specs.Table.{IsTable, macros_at}
+use Rattle.sc_prep.proofs.Facts.{All-append, All-cons, All-head, All-nil, All-tail, Extends-within, IsConfig-Keeps, IsConfig-kept, IsTable-Extends, IsTable-Keeps, Keeps-trans, faults_at-Keeps, faults_at-append, items_at-Keeps, items_at-append, macros_at-Extends, map-append, true≢false}
 use Rattle.sc_prep.proofs.LineSteps.{tokens-grown}
 use Rattle.sc_prep.proofs.Machine.{inert_closing}
 use Rattle.sc_prep.proofs.SettledText.{behind_these, text-as, text-closes, text-expands}
+use Rattle.sc_prep.proofs.Terms.{AllPass, AreOnceHeld, ArePlaced, ClosesPlain, Cond, Expanded, Extends, Fault, HasText, IsCond, IsConfig, IsEmpty, IsExpanded, IsHeld, IsHeldAnswer, IsHeldWalk, IsNever, IsPlaced, IsTable, Keeps, Machine, OnceFile, OwnsOnce, PutsOut, Section, Sets, Stands, TextExpands, Walk, acts, any_token, closing_run, faults_at, has_no_newline, has_none, is_empty, is_plain, items_at, macros_at, once_at, option_to_list, put_out, seen, seen_fault, text_at, token_of, unwrap_or}
 use Rattle.sc_prep.proofs.WalkMoves.{owns-kept, simulates-kept}
-use Rattle.sc_prep.specs.Gathered.{HasText}
+use Rattle.sc_prep.specs.Simulates.{Arrives, Closed, Owns, OwnsSection, Simulates, SimulatesOneOf, section_at}
 
 -- ---- what the items of a list have, those of a configuration have
 

@@ -1,19 +1,9 @@
 -- That the walk of a file comes to each moment to which its machine comes.
-use Rattle.std.proofs.Common.{◌≡◌, ◌<◌, ◌&&◌, ◌⊎◌, inl, inr, not, Bool, true, false, List, [], ◌∷◌, ◌++◌, map, Option, Some, None, Result, Ok, Err, append-nil, refl, sym, ap, ◌∙◌, subst}
-use Rattle.std.specs.Prelude.{length, is_none}
-use Rattle.c11_directives.specs.declared.directive.Conditional.{Conditional}
-use Rattle.c11_directives.specs.declared.directive.Conditional.TheVariants.{Endif}
+use Rattle.std.proofs.Common.{◌≡◌, ◌<◌, ◌&&◌, ◌⊎◌, inl, inr, not, Bool, true, false, List, [], ◌∷◌, ◌++◌, map, Option, Some, None, Result, Ok, Err, append-nil, refl, sym, ap, ◌∙◌, subst, length, is_none}
 use Rattle.c11_directives.specs.Lines.{Line, Group, Branches, IsTree, empty, plain, section, closing, otherwise, alternative, group_lines, branch_lines, IsGroup, AreBranches, conditional_of, nested, split_lines}
-use Rattle.c11_directives.specs.Pre.{Context, Decides, File, State, Steps, Walks, done, file_lines, inside, taken, passed}
 use Rattle.c11_directives.specs.Reaches as moments
-use Rattle.c11_directives.specs.Reaches.{BranchesReach, FileReaches, GroupReaches, LineReaches, Moment, at_end, at_head}
-use Rattle.c11_tokens.specs.Lex.{Lexed, is_newline}
-use Rattle.sc_model.specs.Fault.{Fault}
-use Rattle.sc_model.specs.Outside.{largest_file}
-use Rattle.sc_model.specs.Token.{Lexeme, Place, in_file}
 use Rattle.sc_prep.proofs.Machine.{EndsAs, HaveHashes, after, and_false, alternative_unasked, follows, given, hashes-parts, inert, inert_line, inert_opens, inert_takes, lines-hashes, opens_taken, plain_takes, plain_unasked, runs-join, step_is, takes_conditional, takes_unasked, taking, untaken}
-use Rattle.sc_prep.specs.Footprints.{ComesAt, ComesIn, ComesOver, does, decides, here, later, within, past_all}
-use Rattle.sc_prep.specs.Machine.{Machine, Runs, Takes, acts, asks_by, branched_as, opened, opened_as, next_branch, start, turned}
+use Rattle.sc_prep.proofs.Terms.{BranchesReach, ComesAt, ComesIn, ComesOver, Conditional, Context, Decides, Endif, Fault, File, FileReaches, GroupReaches, Lexed, Lexeme, LineReaches, Machine, Moment, Place, Runs, State, Steps, Takes, Walks, acts, asks_by, at_end, at_head, branched_as, decides, does, done, file_lines, here, in_file, inside, is_newline, largest_file, later, next_branch, opened, opened_as, passed, past_all, start, taken, turned, within}
 use Rattle.sc_prep.specs.Machine as machine
 
 -- ---- at which line the machine comes to a moment

@@ -1,36 +1,12 @@
 -- What was read of files stays while the tables of names and of texts grow.
-use Rattle.std.proofs.Common.{◌≡◌, ℕ, zero, suc, ◌<◌, ◌⊎◌, inl, inr, ◌||◌, get_or, Bool, true, false, List, [], ◌∷◌, All, length, map, slice_get, Option, Some, None, Err, refl, sym, ap, ◌∙◌, subst, arith}
-use Rattle.std.proofs.lemmas.Bool.{cases_order}
-use Rattle.std.proofs.lemmas.List.Elements.{All-drop, All-head, All-tail, All-take, All-weaker}
-use Rattle.std.proofs.lemmas.Option.{none-some, same_Some, slice_get_within}
-use Rattle.std.proofs.lemmas.Simd.{map-map}
-use Rattle.std.specs.Map.{update}
-use Rattle.std.specs.Option.{option_and_then}
-use Rattle.std.specs.Prelude.{◌-◌, cond, drop, slice_set, unwrap_or}
-use Rattle.c11_directives.specs.Lines.{IsTree, directive_of, directives_of, lines_of}
-use Rattle.c11_directives.specs.Pre.{Enters, file_with}
-use Rattle.c11_tokens.specs.Lex.{is_newline}
-use Rattle.sc_base.proofs.Growth.{Extends-keeps, Extends-refl, Extends-within}
-use Rattle.sc_base.specs.declared.id.FileId.{FileId}
+use Rattle.std.proofs.Common.{◌≡◌, ℕ, zero, suc, ◌<◌, ◌⊎◌, inl, inr, ◌||◌, get_or, Bool, true, false, List, [], ◌∷◌, All, length, map, slice_get, Option, Some, None, Err, refl, sym, ap, ◌∙◌, subst, arith, ◌-◌, cond, drop, slice_set}
 use Rattle.sc_base.specs.declared.place.Place.{Place}
-use Rattle.sc_base.specs.declared.token.Token.{Token}
-use Rattle.sc_base.specs.Seen.{IsHeld, position_of, seen, seen_place, text_at}
-use Rattle.sc_lines.specs.Branches.{HasBranches}
 use Rattle.sc_lines.specs.declared.line.Line.{Line}
-use Rattle.sc_lines.specs.Split.{directive_at, token_lines, tokens_of}
-use Rattle.sc_model.proofs.ByteLemmas.{same_bytes-refl, same_bytes-true}
-use Rattle.sc_model.specs.Bytes.{has_no_newline, same_bytes}
-use Rattle.sc_model.specs.Fault.{fault_at}
-use Rattle.sc_model.specs.Growth.{Extends, IsOneToOne}
-use Rattle.sc_model.specs.Outside.{Files}
-use Rattle.sc_model.specs.Token.{name_of}
-use Rattle.sc_model.specs.declared.standard.Standard.{Standard}
-use Rattle.sc_prep.specs.declared.content.Content.{Content}
-use Rattle.sc_prep.specs.declared.content.Content.TheVariants as content
-use Rattle.sc_prep.specs.declared.content.Contents.{Contents}
-use Rattle.sc_prep.specs.declared.content.Reading.{Reading}
+use Rattle.sc_prep.proofs.Facts.{All-drop, All-head, All-tail, All-take, All-weaker, Extends-keeps, Extends-refl, Extends-within, cases_order, map-map, none-some, same_Some, same_bytes-refl, same_bytes-true, slice_get_within}
+use Rattle.sc_prep.proofs.Terms.{Content, Contents, Enters, Extends, FileId, Files, HasBranches, IsHeld, IsOneToOne, IsPlaced, IsPlainOrNewline, IsTree, Standard, Token, directive_at, directive_of, directives_of, fault_at, file_with, has_no_newline, is_newline, lines_of, name_of, option_and_then, position_of, same_bytes, seen, seen_place, text_at, token_lines, tokens_of, unwrap_or, update}
 use Rattle.sc_prep.specs.Contents.{Agrees, AreContents, IsContent, IsHeldContent, IsKept, IsReading, KeepsContents, ReadsSame, absent, content_at, known, nested, refused}
-use Rattle.sc_prep.specs.Printable.{IsPlaced, IsPlainOrNewline}
+use Rattle.sc_prep.specs.declared.content.Content.TheVariants as content
+use Rattle.sc_prep.specs.declared.content.Reading.{Reading}
 
 -- functions that agree at each item
 map-each : {A B : Type 0} (f g : A → B) → ((x : A) → f x ≡ g x) → (xs : List A) → map f xs ≡ map g xs

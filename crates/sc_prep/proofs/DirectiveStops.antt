@@ -1,48 +1,14 @@
 -- Why a directive stops: the footprints of which a stage tells are those of the machine before its
 -- line.
-use Rattle.std.proofs.Common.{◌≡◌, ℕ, ◌+◌, ◌&&◌, Bool, true, false, All, List, [], ◌∷◌, drop, map, take, Some, None, Result, Ok, refl, sym, ap, subst, ◌∙◌, if◌then◌else◌}
-use Rattle.std.proofs.lemmas.Bool.{and_from, and_parts, true≢false}
-use Rattle.std.specs.Prelude.{IfErr, is_none}
-use Rattle.c11_directives.specs.Behind.{begins_with_header, behind_name}
-use Rattle.c11_directives.specs.declared.directive.Conditional.TheVariants.{Opening, Alternative}
-use Rattle.c11_directives.specs.declared.directive.Test.{Test}
-use Rattle.c11_directives.specs.declared.directive.Test.TheVariants.{Expression}
-use Rattle.c11_directives.specs.declared.directive.Directive.{Directive}
+use Rattle.std.proofs.Common.{◌≡◌, ℕ, ◌+◌, ◌&&◌, Bool, true, false, All, List, [], ◌∷◌, drop, map, take, Some, None, Result, Ok, refl, sym, ap, subst, ◌∙◌, if◌then◌else◌, IfErr, is_none}
 use Rattle.c11_directives.specs.Footprints.{DirectiveHas, HasFootprints, MomentsHave, NameHas, TextHas, Used, expression, IsSaid, Spot, before_token, footprint_at, of_head, of_header, of_line, of_name, of_part, said, waiting}
-use Rattle.c11_directives.specs.Lines.{Line, conditional_of, hash_of, test_of}
-use Rattle.c11_directives.specs.Pre.{Context, is_barrier, is_said}
-use Rattle.c11_directives.specs.Reaches.{at_head}
 use Rattle.c11_expressions.specs.Lines.{without_defined}
 use Rattle.c11_expressions.specs.Parts.{Part}
-use Rattle.c11_macros.specs.Text.{TextExpands, unhidden}
-use Rattle.sc_base.specs.declared.id.Cond.{Cond}
-use Rattle.sc_base.specs.declared.stop.Stop.{Stop}
-use Rattle.sc_base.specs.declared.stop.Stop.TheVariants.{BranchesFull, ReadFault, OutOfMemory}
 use Rattle.sc_base.specs.declared.token.Token as base
-use Rattle.sc_base.specs.Seen.{IsHeld, seen}
-use Rattle.sc_expand.specs.Alike.{DefineTextAlike}
-use Rattle.sc_guarded.proofs.ItemLemmas.{under}
-use Rattle.sc_guarded.specs.Items.{items_at}
-use Rattle.sc_hoist.specs.Alike.{AreAlike}
-use Rattle.sc_hoist.specs.Places.{places_at}
-use Rattle.sc_if.specs.Parts.{HasPart, HasParts, RefusesAt}
-use Rattle.sc_lines.proofs.SeenLines.{directive-files}
-use Rattle.sc_lines.specs.Nests.{seen_line}
-use Rattle.sc_lines.specs.Split.{directive_at}
-use Rattle.sc_model.proofs.SetLemmas.{IsConfig-Keeps, IsConfig-kept}
-use Rattle.sc_model.specs.Fault.{Fault}
-use Rattle.sc_model.specs.Growth.{Extends}
-use Rattle.sc_model.specs.Sets.{Sets, Denotes, IsCond, IsConfig, Keeps}
 use Rattle.sc_model.specs.Token.{Place, Token}
-use Rattle.sc_model.specs.declared.standard.Standard.{Standard}
-use Rattle.sc_prep.specs.Apart.{AreDifferent, StandApart, tokens_in}
-use Rattle.sc_prep.specs.declared.walk.Walk.{Walk}
-use Rattle.sc_prep.specs.Expressions.{ExpandsAt, ReplacesAt, expanding_done, expanding_fails, expanding_idle, replacing_done, replacing_fails, replacing_idle}
-use Rattle.sc_prep.specs.Footprints.{Comes, ComesAt, HaveLists, StopsAtPlace, StopsByLists, StopsWalk, any_machine, decides}
-use Rattle.sc_prep.specs.Machine.{Machine, acts, asks_by, next_branch}
-use Rattle.sc_prep.specs.Simulates.{Closed, Owns, Simulates, SimulatesOneOf}
 use Rattle.sc_prep.proofs.ApartLemmas.{apart-drop, different}
 use Rattle.sc_prep.proofs.ExpressionMoves.{asked-at, right-none}
+use Rattle.sc_prep.proofs.Facts.{IsConfig-Keeps, IsConfig-kept, and_from, and_parts, directive-files, true≢false, under}
 use Rattle.sc_prep.proofs.FileStops.{comes-closing, comes-said}
 use Rattle.sc_prep.proofs.LineFootprints.{headers-footprints, lists-footprints}
 use Rattle.sc_prep.proofs.LineSteps.{line-grown}
@@ -50,9 +16,9 @@ use Rattle.sc_prep.proofs.NameFootprints.{text-as}
 use Rattle.sc_prep.proofs.PartFootprints.{part-footprints, part-has}
 use Rattle.sc_prep.proofs.SaidMoves.{text-at}
 use Rattle.sc_prep.proofs.Stopping.{answer-stops, footprints-as, here_at, stops-as}
+use Rattle.sc_prep.proofs.Terms.{Alternative, AreAlike, AreDifferent, BranchesFull, Closed, Comes, ComesAt, Cond, Context, DefineTextAlike, Denotes, Directive, ExpandsAt, Expression, Extends, Fault, HasPart, HasParts, HaveLists, IsCond, IsConfig, IsHeld, IsTable, Keeps, Line, Machine, Opening, OutOfMemory, Owns, ReadFault, RefusesAt, ReplacesAt, Sets, Simulates, SimulatesOneOf, StandApart, Standard, Stop, StopsAtPlace, StopsByLists, StopsWalk, Test, TextExpands, Walk, acts, any_machine, asks_by, at_head, begins_with_header, behind_name, conditional_of, decides, directive_at, expanding_done, expanding_fails, expanding_idle, hash_of, is_barrier, is_said, items_at, macros_at, next_branch, places_at, replacing_done, replacing_fails, replacing_idle, seen, seen_line, test_of, tokens_in, unhidden}
 use Rattle.sc_prep.proofs.VoidFootprints.{void-footprints}
 use Rattle.sc_prep.proofs.WalkMoves.{simulates-kept}
-use Rattle.sc_table.specs.Table.{IsTable, macros_at}
 
 -- a stage that stops for different lists stops at a place
 pub lists-stop : {K V : Type 0} {mid arities other : List ℕ} {test : List ℕ → Bool} {list : List ℕ → List ℕ} {P : List ℕ → K × V → Type 0} (limit : ℕ) (stop : Stop) → mid ≡ arities

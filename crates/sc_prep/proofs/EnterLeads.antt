@@ -1,52 +1,20 @@
 -- What a walk that enters a file leads to at each configuration.
-use Rattle.std.proofs.Common.{◌≡◌, ℕ, ◌<◌, ◌&&◌, not, Bool, true, false, List, [], ◌∷◌, All, map, reverse, length, Option, None, Some, Result, Ok, Err, refl, sym, ap, ◌∙◌, subst}
-use Rattle.std.proofs.lemmas.Bool.{and_parts}
-use Rattle.std.specs.Prelude.{slice_get}
-use Rattle.c11_directives.specs.Lines.{lines_of}
-use Rattle.c11_directives.specs.Pre.{Context, State, File, Enters, back, file_lines, file_with, is_once_file}
-use Rattle.c11_macros.specs.Results.{result_map}
+use Rattle.std.proofs.Common.{◌≡◌, ℕ, ◌<◌, ◌&&◌, not, Bool, true, false, List, [], ◌∷◌, All, map, reverse, length, Option, None, Some, Result, Ok, Err, refl, sym, ap, ◌∙◌, subst, slice_get}
 use Rattle.sc_base.specs.declared.fault.Fault as base
-use Rattle.sc_base.specs.declared.id.Cond.{Cond}
-use Rattle.sc_base.specs.declared.id.FileId.{FileId}
 use Rattle.sc_base.specs.declared.place.Place.{Place}
-use Rattle.sc_base.specs.Seen.{seen, text_at}
-use Rattle.sc_guarded.proofs.ItemLemmas.{items_at-Keeps}
-use Rattle.sc_guarded.specs.Items.{items_at, seen_fault}
-use Rattle.sc_lines.specs.Nests.{seen_lines}
-use Rattle.sc_model.proofs.SetLemmas.{IsConfig-Keeps, IsConfig-kept, Keeps-trans}
-use Rattle.sc_model.specs.declared.cause.Cause.{Cause}
-use Rattle.sc_model.specs.Bytes.{has_no_newline}
-use Rattle.sc_model.specs.Fault.{Fault}
-use Rattle.sc_model.specs.Outside.{Files}
-use Rattle.sc_model.specs.Sets.{Sets, IsConfig, IsCond, IsNever, Denotes, Keeps}
-use Rattle.sc_model.specs.Growth.{Extends}
 use Rattle.sc_model.specs.Token.{Token, in_file}
-use Rattle.sc_model.specs.declared.standard.Standard.{Standard}
 use Rattle.sc_prep.proofs.BetweenRuns.{enters-run}
 use Rattle.sc_prep.proofs.EnterMoves.{acts-unfaulty, arrived-at, begins-idle, begins-start, entering, idle, not-entered, put-before, put-inside, refused-at, refused-here, refused-not, refuses-inside, resumed, resumes}
+use Rattle.sc_prep.proofs.Facts.{IsConfig-Keeps, IsConfig-kept, IsTable-Keeps, Keeps-trans, and_parts, items_at-Keeps}
 use Rattle.sc_prep.proofs.FileWalk.{LeftBy, covers-entered, covers-idle}
 use Rattle.sc_prep.proofs.NamedFiles.{items-later, simulates-later}
 use Rattle.sc_prep.proofs.SettledText.{nothing-settled, text-as, text-empty}
-use Rattle.sc_prep.specs.Gathered.{HasText}
+use Rattle.sc_prep.proofs.Terms.{AllPass, Around, Begins, Cause, Cond, Content, Contents, Context, Denotes, Enters, EntersAt, Entry, Extends, Fault, File, FileId, FileLines, Files, HasText, IsCond, IsConfig, IsHeldWalk, IsNever, IsPlainState, IsTable, Keeps, Leaves, Machine, RefusesEach, Sets, Standard, State, Walk, acts, any_token, arriving, back, enters, file_lines, file_with, has_no_newline, is_once_file, is_plain, items_at, lines_of, once_at, result_map, seen, seen_fault, seen_lines, start, text_at}
 use Rattle.sc_prep.proofs.WalkMoves.{owns-kept, sections-kept, simulates-kept}
-use Rattle.sc_prep.specs.Closes.{RefusesEach}
 use Rattle.sc_prep.specs.Contents.{Agrees, AreContents, AreHeldLines, AreLinesOf, IsContent, IsHeldContent, RefusesAll, content_at, nested, refused}
-use Rattle.sc_prep.specs.Entering.{Begins, Leaves}
-use Rattle.sc_prep.specs.Includes.{EntersAt, enters}
-use Rattle.sc_prep.specs.Machine.{Machine, acts, arriving, start}
-use Rattle.sc_prep.specs.Once.{once_at}
-use Rattle.sc_prep.specs.Printable.{AllPass, IsHeldWalk, IsPlainState, any_token, is_plain}
 use Rattle.sc_prep.specs.Simulates as simulates
 use Rattle.sc_prep.specs.Simulates.{Arrives, Covers, IsAtTop, IsBetweenRuns, Leads, Owns, OwnsSection, PlainEach, Simulates, section_at}
-use Rattle.sc_prep.specs.declared.content.Content.{Content}
 use Rattle.sc_prep.specs.declared.content.Content.TheVariants as content
-use Rattle.sc_prep.specs.declared.content.Contents.{Contents}
-use Rattle.sc_prep.specs.declared.content.FileLines.{FileLines}
-use Rattle.sc_prep.specs.declared.entering.Around.{Around}
-use Rattle.sc_prep.specs.declared.entry.Entry.{Entry}
-use Rattle.sc_prep.specs.declared.walk.Walk.{Walk}
-use Rattle.sc_table.proofs.Growth.{IsTable-Keeps}
-use Rattle.sc_table.specs.Table.{IsTable}
 
 -- ---- what was kept of a file
 

@@ -1,30 +1,13 @@
 -- How a walk that enters a file simulates the machine of each configuration.
-use Rattle.std.proofs.Common.{◌≡◌, ℕ, ◌&&◌, ◌++◌, ◌∷◌, not, Bool, true, false, List, [], All, map, reverse, append-nil, if◌then◌else◌, Option, Some, None, Ok, Err, refl, sym, ap, ◌∙◌, subst}
-use Rattle.std.specs.Option.{option_to_list}
-use Rattle.std.specs.Prelude.{is_none}
-use Rattle.c11_directives.specs.Pre.{Context, State, back, is_once_file}
-use Rattle.std.proofs.lemmas.List.{map-append}
+use Rattle.std.proofs.Common.{◌≡◌, ℕ, ◌&&◌, ◌++◌, ◌∷◌, not, Bool, true, false, List, [], All, map, reverse, append-nil, if◌then◌else◌, Option, Some, None, Ok, Err, refl, sym, ap, ◌∙◌, subst, is_none}
 use Rattle.sc_base.specs.declared.fault.Fault as base
-use Rattle.sc_base.specs.declared.id.Cond.{Cond}
-use Rattle.sc_guarded.proofs.ItemLemmas.{faults_at-append}
-use Rattle.sc_base.specs.Seen.{seen}
-use Rattle.sc_guarded.specs.Items.{faults_at, items_at, seen_fault}
-use Rattle.sc_model.proofs.SetLemmas.{IsConfig-Keeps}
-use Rattle.sc_model.specs.Fault.{Fault}
-use Rattle.sc_model.specs.Sets.{Sets, IsConfig, IsCond, Keeps}
 use Rattle.sc_model.specs.Token.{Token}
+use Rattle.sc_prep.proofs.Facts.{IsConfig-Keeps, faults_at-append, map-append}
 use Rattle.sc_prep.proofs.Machine.{after}
-use Rattle.sc_prep.proofs.WalkMoves.{simulates-kept, sections-kept}
-use Rattle.sc_prep.specs.Closes.{RefusesEach, has_none, is_empty}
 use Rattle.sc_prep.proofs.SettledText.{nothing-settled, text-empty}
-use Rattle.sc_prep.specs.Entering.{Begins, Leaves}
-use Rattle.sc_prep.specs.Gathered.{HasText}
+use Rattle.sc_prep.proofs.Terms.{Around, Begins, Cond, Context, Fault, HasText, IsBetweenRuns, IsCond, IsConfig, IsTable, Keeps, Leaves, Machine, Owns, OwnsSection, RefusesEach, Sets, Simulates, State, Walk, acts, arriving, back, faults_at, has_none, is_empty, is_once_file, items_at, option_to_list, section_at, seen, seen_fault, start}
+use Rattle.sc_prep.proofs.WalkMoves.{simulates-kept, sections-kept}
 use Rattle.sc_prep.specs.Includes.{EntersAt, elsewhere, inert, left_out}
-use Rattle.sc_prep.specs.Machine.{Machine, acts, arriving, start}
-use Rattle.sc_prep.specs.Simulates.{IsBetweenRuns, Owns, OwnsSection, Simulates, section_at}
-use Rattle.sc_prep.specs.declared.entering.Around.{Around}
-use Rattle.sc_prep.specs.declared.walk.Walk.{Walk}
-use Rattle.sc_table.specs.Table.{IsTable}
 
 pub acts-unfaulty : (m : Machine) → acts m ≡ true → m.fault ≡ None
 acts-unfaulty m e = by m.active m.fault e

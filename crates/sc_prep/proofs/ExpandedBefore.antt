@@ -1,18 +1,9 @@
 -- What an expansion says of a list, told of the store from before.
 use Rattle.std.proofs.Common.{◌≡◌, ℕ, List, All, map, Result, sym, ap, subst}
-use Rattle.c11_macros.specs.Text.{TextExpands}
-use Rattle.sc_base.specs.declared.id.Cond.{Cond}
 use Rattle.sc_base.specs.declared.token.Token as base
-use Rattle.sc_base.specs.Seen.{seen}
-use Rattle.sc_expand.specs.Alike.{DefineTextAlike}
-use Rattle.sc_guarded.proofs.ItemLemmas.{items_at-Keeps}
-use Rattle.sc_guarded.specs.Items.{items_at}
-use Rattle.sc_model.specs.Fault.{Fault}
-use Rattle.sc_model.specs.Sets.{Sets, IsCond, IsConfig, Keeps}
 use Rattle.sc_model.specs.Token.{Token}
-use Rattle.sc_table.proofs.Growth.{macros_at-Keeps}
-use Rattle.sc_table.specs.declared.table.MacroTable.{MacroTable}
-use Rattle.sc_table.specs.Table.{IsTable, macros_at}
+use Rattle.sc_prep.proofs.Facts.{items_at-Keeps, macros_at-Keeps}
+use Rattle.sc_prep.proofs.Terms.{Cond, DefineTextAlike, Fault, IsCond, IsConfig, IsTable, Keeps, MacroTable, Sets, TextExpands, items_at, macros_at, seen}
 
 module _ {old mid : Sets} (keeps : Keeps old mid) (names files : List (List ℕ)) (table : MacroTable) (is : IsTable old names table) (list : List (Cond × base.Token))
     (own : All (λ (item : Cond × base.Token). IsCond old item.0.0) list) where

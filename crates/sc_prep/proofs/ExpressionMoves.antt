@@ -1,45 +1,18 @@
 -- The stages of an expression under all configurations at once, seen at each.
-use Rattle.std.proofs.Common.{◌≡◌, ℕ, ◌&&◌, Bool, true, false, List, [], All, map, length, Option, Some, None, Result, Ok, Err, refl, sym, ap, subst, ◌∙◌}
-use Rattle.std.proofs.lemmas.Bool.{true≢false}
-use Rattle.std.specs.Prelude.{is_none}
-use Rattle.c11_directives.specs.Behind.{behind_name}
-use Rattle.c11_directives.specs.declared.directive.Conditional.TheVariants.{Opening, Alternative}
-use Rattle.c11_directives.specs.declared.directive.Test.{Test}
-use Rattle.c11_directives.specs.declared.directive.Test.TheVariants.{Expression}
-use Rattle.c11_directives.specs.Lines.{Line, conditional_of, hash_of, test_of}
-use Rattle.c11_directives.specs.Pre.{Context}
+use Rattle.std.proofs.Common.{◌≡◌, ℕ, ◌&&◌, Bool, true, false, List, [], All, map, length, Option, Some, None, Result, Ok, Err, refl, sym, ap, subst, ◌∙◌, is_none}
 use Rattle.c11_expressions.specs.Lines.{Comes, failure, without_defined}
-use Rattle.sc_model.specs.declared.standard.Standard.TheVariants.{C11}
-use Rattle.c11_macros.specs.Hidden.{Failure, Hidden}
-use Rattle.c11_macros.specs.Results.{result_map}
-use Rattle.c11_macros.specs.Text.{TextExpands, fault_of, unhidden}
-use Rattle.sc_base.specs.declared.id.Cond.{Cond}
 use Rattle.sc_base.specs.declared.place.Place as base_place
 use Rattle.sc_base.specs.declared.token.Token as base_token
-use Rattle.sc_base.specs.Seen.{seen, seen_place}
-use Rattle.sc_expand.specs.Answers.{IsEmpty, IsExpanded, IsHeldAnswer, Stands}
-use Rattle.sc_guarded.proofs.ItemLemmas.{items_at-Keeps}
-use Rattle.sc_guarded.specs.Items.{faults_at, items_at, seen_fault}
-use Rattle.sc_guarded.specs.declared.expanded.Expanded.{Expanded}
-use Rattle.sc_if.specs.declared.deciding.Decided.{Decided}
 use Rattle.sc_if.specs.Decided as decided
 use Rattle.sc_if.specs.Replaced as replaced
-use Rattle.sc_model.proofs.SetLemmas.{IsConfig-Keeps}
-use Rattle.sc_model.specs.declared.cause.Cause.{Cause}
-use Rattle.sc_model.specs.Fault.{Fault}
-use Rattle.sc_model.specs.Sets.{Sets, Denotes, IsConfig, IsCond, Keeps}
+use Rattle.sc_if.specs.declared.deciding.Decided.{Decided}
 use Rattle.sc_model.specs.Token.{Token}
-use Rattle.sc_model.specs.declared.standard.Standard.{Standard}
-use Rattle.sc_prep.specs.Expressions.{DecidesAt, EvaluatesAt, ExpandsAt, ReplacesAt, deciding_idle, evaluating_done, evaluating_fails, evaluating_idle, expanding_done, expanding_fails, expanding_idle, replacing_done, replacing_fails, replacing_idle}
-use Rattle.sc_prep.specs.Machine as machine
-use Rattle.sc_prep.specs.Machine.{Machine, acts, next_branch, opened}
-use Rattle.sc_prep.specs.Simulates.{Owns, Simulates, SimulatesOneOf, SimulatesStep}
-use Rattle.sc_prep.specs.declared.walk.Walk.{Walk}
-use Rattle.sc_table.proofs.Growth.{IsTable-Keeps, macros_at-Keeps}
-use Rattle.sc_table.specs.Table.{IsTable, macros_at}
 use Rattle.sc_prep.proofs.ExpressionSteps.{at_place, decided-alternative, decided-by, decided-opening, faults-seen, moved-seen, without-moved}
+use Rattle.sc_prep.proofs.Facts.{IsConfig-Keeps, IsTable-Keeps, items_at-Keeps, macros_at-Keeps, true≢false}
 use Rattle.sc_prep.proofs.StageRefusals.{FaultsAt}
+use Rattle.sc_prep.proofs.Terms.{Alternative, C11, Cause, Cond, Context, DecidesAt, Denotes, EvaluatesAt, Expanded, ExpandsAt, Expression, Failure, Fault, Hidden, IsCond, IsConfig, IsEmpty, IsExpanded, IsHeldAnswer, IsTable, Keeps, Line, Machine, Opening, Owns, ReplacesAt, Sets, Simulates, SimulatesOneOf, SimulatesStep, Standard, Stands, Test, TextExpands, Walk, acts, behind_name, conditional_of, deciding_idle, evaluating_done, evaluating_fails, evaluating_idle, expanding_done, expanding_fails, expanding_idle, fault_of, faults_at, hash_of, items_at, macros_at, next_branch, opened, replacing_done, replacing_fails, replacing_idle, result_map, seen, seen_fault, seen_place, test_of, unhidden}
 use Rattle.sc_prep.proofs.WalkMoves.{owns-kept, simulates-kept}
+use Rattle.sc_prep.specs.Machine as machine
 
 pub right-none : {F : Type 0} (a : Bool) (f : Option F) → (a && is_none f) ≡ true → f ≡ None
 right-none true None e = refl

@@ -1,35 +1,15 @@
 -- The stages of an expression at one configuration.
-use Rattle.std.proofs.Common.{◌≡◌, ℕ, ◌<◌, ◌&&◌, not, Bool, true, false, List, [], ◌∷◌, map, length, Some, None, Result, Ok, Err, get_or, refl, sym, ap, subst, ◌∙◌, arith, if◌then◌else◌}
-use Rattle.std.specs.Prelude.{is_none, codes}
-use Rattle.c11_directives.specs.Behind.{behind_name}
-use Rattle.c11_directives.specs.Lines.{Line, conditional_of, hash_of, test_of}
+use Rattle.std.proofs.Common.{◌≡◌, ℕ, ◌<◌, ◌&&◌, not, Bool, true, false, List, [], ◌∷◌, map, length, Some, None, Result, Ok, Err, get_or, refl, sym, ap, subst, ◌∙◌, arith, if◌then◌else◌, is_none, codes}
 use Rattle.c11_directives.specs.Pre.{Context, Decides, decision_of, expression}
-use Rattle.c11_directives.specs.declared.directive.Conditional.TheVariants.{Opening, Alternative}
-use Rattle.c11_directives.specs.declared.directive.Test.{Test}
-use Rattle.c11_directives.specs.declared.directive.Test.TheVariants.{Expression}
-use Rattle.sc_lines.specs.Nests.{seen_line}
 use Rattle.c11_expressions.specs.Lines as lines
 use Rattle.c11_expressions.specs.Lines.{Comes, before, definedness, failure, in_parentheses, is_defined, is_identifier, malformed, unexpanded, without_defined}
-use Rattle.c11_macros.specs.Expansion.{Expands}
-use Rattle.c11_macros.specs.Hidden.{Failure, Hidden}
-use Rattle.c11_macros.specs.Macros.{Macros}
-use Rattle.c11_macros.specs.Results.{result_map}
-use Rattle.c11_macros.specs.Text.{TextExpands, fault_of, place_alone, text_of_answer, token_of, unhidden}
 use Rattle.sc_base.specs.declared.fault.Fault as base
 use Rattle.sc_base.specs.declared.place.Place as base_place
 use Rattle.sc_base.specs.declared.token.Token as base_token
-use Rattle.sc_base.specs.Seen.{seen, seen_place}
-use Rattle.sc_guarded.specs.Items.{seen_fault}
-use Rattle.sc_if.proofs.AnswerLemmas.{comes-expanded}
 use Rattle.sc_if.specs.Replaced as replaced
-use Rattle.sc_model.specs.Bytes.{same_bytes}
-use Rattle.sc_model.specs.declared.cause.Cause.{Cause}
-use Rattle.sc_model.specs.declared.cause.Cause.TheVariants.{BadIf}
-use Rattle.sc_model.specs.Fault.{Fault}
 use Rattle.sc_model.specs.Token.{Place, Token}
-use Rattle.sc_model.specs.declared.standard.Standard.{Standard}
-use Rattle.sc_prep.specs.Expressions.{DecidesAt, EvaluatesAt, ExpandsAt, ReplacesAt, deciding_done, deciding_fails, deciding_idle, evaluating_done, evaluating_fails, evaluating_idle, expanding_done, expanding_fails, expanding_idle, failed, replacing_done, replacing_fails, replacing_idle}
-use Rattle.sc_prep.specs.Machine.{Machine, Decided, acts, asks_by, next_branch, opened, step_by}
+use Rattle.sc_prep.proofs.Facts.{comes-expanded}
+use Rattle.sc_prep.proofs.Terms.{Alternative, BadIf, Cause, Decided, DecidesAt, EvaluatesAt, Expands, ExpandsAt, Expression, Failure, Fault, Hidden, Line, Machine, Macros, Opening, ReplacesAt, Standard, Test, TextExpands, acts, asks_by, behind_name, conditional_of, deciding_done, deciding_fails, deciding_idle, evaluating_done, evaluating_fails, evaluating_idle, expanding_done, expanding_fails, expanding_idle, failed, fault_of, hash_of, next_branch, opened, place_alone, replacing_done, replacing_fails, replacing_idle, result_map, same_bytes, seen, seen_fault, seen_line, seen_place, step_by, test_of, text_of_answer, token_of, unhidden}
 
 -- ---- only the places differ between a line and what is seen of it
 

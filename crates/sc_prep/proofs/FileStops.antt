@@ -1,45 +1,20 @@
 -- To which moments a machine comes behind other lines, in a file that it includes, and in one that
 -- it enters.
-use Rattle.std.proofs.Common.{◌≡◌, ℕ, ◌+◌, ◌<◌, ◌&&◌, not, Bool, true, false, List, [], ◌∷◌, ◌++◌, length, map, take, Some, Result, Ok, Err, drop-cons, if◌then◌else◌, refl, sym, ap, ◌∙◌, subst}
-use Rattle.std.proofs.lemmas.List.{take-append-drop}
-use Rattle.std.proofs.lemmas.Option.{same_Some}
-use Rattle.std.specs.Prelude.{slice_get, unwrap_or}
-use Rattle.c11_directives.specs.Behind.{Says}
-use Rattle.c11_directives.specs.declared.directive.Directive.{Directive}
-use Rattle.c11_directives.specs.declared.directive.Directive.TheVariants as directive
-use Rattle.c11_directives.specs.Footprints.{DirectiveHas, MomentsHave, NameHas, SourceFootprint, Spot, Used, of_directive, of_run}
-use Rattle.c11_directives.specs.Lines.{Line, hash_of, lines_of}
-use Rattle.c11_directives.specs.Pre.{Closes, Context, File, State, closed, deeper, file_lines, file_with, is_barrier, is_said, put_out, search, is_once_file}
+use Rattle.std.proofs.Common.{◌≡◌, ℕ, ◌+◌, ◌<◌, ◌&&◌, not, Bool, true, false, List, [], ◌∷◌, ◌++◌, length, map, take, Some, Result, Ok, Err, drop-cons, if◌then◌else◌, refl, sym, ap, ◌∙◌, subst, slice_get}
 use Rattle.c11_directives.specs.Reaches.{FileReaches, Moment, at_line, in_file, itself}
-use Rattle.c11_headers.specs.Headers.{candidates}
-use Rattle.sc_base.specs.declared.id.Cond.{Cond}
-use Rattle.sc_base.specs.declared.id.FileId.{FileId}
-use Rattle.sc_base.specs.Seen.{text_at}
-use Rattle.sc_lines.specs.Judges.{line_at, no_line}
-use Rattle.sc_lines.specs.Nests.{seen_lines}
-use Rattle.sc_model.specs.Fault.{Fault}
-use Rattle.sc_model.specs.Sets.{Sets, IsConfig, Denotes, Keeps}
+use Rattle.c11_directives.specs.declared.directive.Directive.TheVariants as directive
 use Rattle.sc_model.specs.Token as plain
 use Rattle.sc_model.specs.Token.{Place, Token}
-use Rattle.sc_model.specs.declared.standard.Standard.{Standard}
 use Rattle.sc_prep.proofs.BetweenRuns.{refused-acts}
 use Rattle.sc_prep.proofs.ComesFrom.{comes-entered, comes-inert}
 use Rattle.sc_prep.proofs.EnterLeads.{HasLines, both-enter, stays, enters-again}
 use Rattle.sc_prep.proofs.EnterMoves.{begins-idle, begins-start, entering, idle, put-before}
+use Rattle.sc_prep.proofs.Facts.{same_Some, take-append-drop}
 use Rattle.sc_prep.proofs.Going.{Stage, Staged, came, searched, waits}
 use Rattle.sc_prep.proofs.Machine.{barrier-plain, runs-more, runs-none, said-barrier}
 use Rattle.sc_prep.proofs.Stopping.{here_at, moments-as}
-use Rattle.sc_prep.specs.declared.content.FileLines.{FileLines}
-use Rattle.sc_prep.specs.declared.entering.Around.{Around}
-use Rattle.sc_prep.specs.declared.entry.Entry.{Entry}
-use Rattle.sc_prep.specs.declared.walk.Walk.{Walk}
-use Rattle.sc_prep.specs.Entering.{Begins}
-use Rattle.sc_prep.specs.Footprints.{Comes, ComesAt, ComesIn, ComesInside, ComesOver, does, here, later, within}
-use Rattle.sc_prep.specs.Once.{once_at}
-use Rattle.sc_prep.specs.Machine.{Machine, Runs, RunExpands, acts, closing_run, start}
+use Rattle.sc_prep.proofs.Terms.{Around, Begins, Closed, Closes, Comes, ComesAt, ComesIn, ComesInside, ComesOver, Cond, Context, Denotes, Directive, DirectiveHas, Entry, Fault, File, FileId, FileLines, IsAtTop, IsBetweenRuns, IsConfig, IsTable, Keeps, Leads, Line, Machine, MomentsHave, NameHas, Owns, RunExpands, Runs, Says, Sets, Simulates, SourceFootprint, Spot, Standard, State, Used, Walk, acts, candidates, closed, closing_run, deeper, does, file_lines, file_with, hash_of, here, is_barrier, is_once_file, is_said, later, line_at, lines_of, no_line, of_directive, of_run, once_at, put_out, search, seen_lines, start, text_at, unwrap_or, within}
 use Rattle.sc_prep.specs.Simulates as simulates
-use Rattle.sc_prep.specs.Simulates.{Closed, IsAtTop, IsBetweenRuns, Leads, Owns, Simulates}
-use Rattle.sc_table.specs.Table.{IsTable}
 
 -- ---- a later call
 

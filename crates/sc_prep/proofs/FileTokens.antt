@@ -1,27 +1,8 @@
 -- The tokens of a file, and that what comes of them can be shown.
-use Rattle.std.proofs.Common.{◌≡◌, ℕ, ◌<◌, ◌≤◌, ◌||◌, true, List, [], ◌∷◌, All, length, map, Option, Some, None, sym, ap, ◌∙◌, subst, arith}
-use Rattle.std.proofs.lemmas.Bool.{and_parts}
-use Rattle.std.proofs.lemmas.List.{length-map}
-use Rattle.std.proofs.lemmas.List.Elements.{All-nil, All-cons, All-weaker}
-use Rattle.std.specs.List.{list_all}
-use Rattle.std.specs.Option.{option_map, option_to_list}
-use Rattle.std.specs.Prelude.{slice_get, unwrap_or}
-use Rattle.c11_tokens.proofs.PlainLaws.{lexed-plain}
-use Rattle.c11_tokens.specs.Lex.{is_newline}
+use Rattle.std.proofs.Common.{◌≡◌, ℕ, ◌<◌, ◌≤◌, ◌||◌, true, List, [], ◌∷◌, All, length, map, Option, Some, None, sym, ap, ◌∙◌, subst, arith, slice_get}
 use Rattle.sc_base.specs.declared.fault.Fault as base
-use Rattle.sc_base.specs.declared.id.FileId.{FileId}
-use Rattle.sc_base.specs.declared.token.Token.{Token}
-use Rattle.sc_base.specs.Seen.{IsHeld, position_of}
-use Rattle.sc_guarded.specs.Items.{faults_at, seen_fault}
-use Rattle.sc_guarded.specs.Printable.{AreApart}
-use Rattle.sc_lex.specs.Spell.{AreTokensOf, lexeme_at}
-use Rattle.sc_model.specs.Bytes.{has_no_newline}
-use Rattle.sc_model.specs.Fault.{Fault}
-use Rattle.sc_model.specs.Sets.{Sets}
-use Rattle.sc_model.specs.Token.{Lexeme}
-use Rattle.sc_prep.specs.declared.prepared.Prepared.{Prepared}
-use Rattle.sc_prep.specs.Preprocesses.{OwnsList}
-use Rattle.sc_prep.specs.Printable.{AllPass, AreHeld, ArePlainPaths, CanBeShown, IsPlaced, IsPlainOrNewline, any_token, is_plain}
+use Rattle.sc_prep.proofs.Facts.{All-cons, All-nil, All-weaker, and_parts, length-map, lexed-plain}
+use Rattle.sc_prep.proofs.Terms.{AllPass, AreApart, AreHeld, ArePlainPaths, AreTokensOf, CanBeShown, Fault, FileId, IsHeld, IsPlaced, IsPlainOrNewline, Lexeme, OwnsList, Prepared, Sets, Token, any_token, faults_at, has_no_newline, is_newline, is_plain, lexeme_at, list_all, option_map, option_to_list, position_of, seen_fault, unwrap_or}
 
 -- what the token's spelling is like, seen through the table
 plain_by : (t : Token) (l : Lexeme) (o : Option (List ℕ)) → option_map (λ s. record { kind = t.kind; spelling = s; space = t.space; position = position_of t.place }) o ≡ Some l

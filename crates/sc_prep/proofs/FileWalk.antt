@@ -1,15 +1,9 @@
 -- That the walk of a file's lines is what entering the file is.
-use Rattle.std.proofs.Common.{◌≡◌, ◌<◌, ◌&&◌, true, false, List, [], map, Option, Some, None, Result, Ok, Err, refl, sym, ap, subst, ◌∙◌}
-use Rattle.std.specs.Prelude.{length, is_none}
-use Rattle.sc_prep.specs.Machine.{Machine, acts, closing_run, RunExpands, Runs, start}
-use Rattle.sc_prep.specs.Simulates.{Covers}
-use Rattle.sc_prep.proofs.Machine.{HaveHashes, after, given, inert, inert_closing, follows, lines-hashes}
-use Rattle.c11_tokens.specs.Lex.{Lexed, is_newline}
+use Rattle.std.proofs.Common.{◌≡◌, ◌<◌, ◌&&◌, true, false, List, [], map, Option, Some, None, Result, Ok, Err, refl, sym, ap, subst, ◌∙◌, length, is_none}
 use Rattle.c11_directives.specs.Lines.{Line, Group, IsTree, nested, split_lines}
-use Rattle.sc_model.specs.Outside.{largest_file}
-use Rattle.sc_model.specs.Fault.{Fault}
-use Rattle.c11_directives.specs.Pre.{Context, State, Walks, put_out, closed, refused, File, file_lines, inside, Enters, stopped_inside, walked}
 use Rattle.sc_model.specs.Token.{Lexeme, Token, in_file}
+use Rattle.sc_prep.proofs.Machine.{HaveHashes, after, given, inert, inert_closing, follows, lines-hashes}
+use Rattle.sc_prep.proofs.Terms.{Context, Covers, Enters, Fault, File, Lexed, Machine, RunExpands, Runs, State, Walks, acts, closed, closing_run, file_lines, inside, is_newline, largest_file, put_out, refused, start, stopped_inside, walked}
 
 -- a machine with this fault, at the end of its file
 pub record EndsFaulty (fault : Fault) (n : Machine) : Type 0 where

@@ -1,30 +1,10 @@
 -- Looking names up, and the parts of files.
-use Rattle.std.proofs.Common.{Global, ◌≡◌, ℕ, zero, suc, ◌+◌, ◌<◌, ◌||◌, append-nil, drop, take, Bool, true, false, List, [], ◌∷◌, ◌++◌, All, map, length, get_or, slice_get, Option, Some, None, refl, sym, ap, subst, ◌∙◌, arith, if◌then◌else◌}
-use Rattle.std.proofs.lemmas.Bool.{eqb-true}
-use Rattle.std.proofs.lemmas.List.{drop_more, map-append, take-append-drop}
-use Rattle.std.proofs.lemmas.List.Elements.{All-cons, All-head, All-nil, All-push}
-use Rattle.std.proofs.lemmas.List.Quantifiers.{position-Some}
-use Rattle.std.specs.declared.rc.Rc.{Rc}
-use Rattle.std.specs.Option.{option_map}
-use Rattle.std.specs.Prelude.{◌==◌, slice_set}
-use Rattle.c11_directives.specs.Pre.{File, file_with, found_or, search}
+use Rattle.std.proofs.Common.{Global, ◌≡◌, ℕ, zero, suc, ◌+◌, ◌<◌, ◌||◌, append-nil, drop, take, Bool, true, false, List, [], ◌∷◌, ◌++◌, All, map, length, get_or, slice_get, Option, Some, None, refl, sym, ap, subst, ◌∙◌, arith, if◌then◌else◌, ◌==◌, slice_set}
 use Rattle.sc_base.specs.Interns.{Interns, fresh, known}
-use Rattle.sc_model.specs.Bytes.{has_no_newline}
-use Rattle.sc_model.specs.Outside.{Files}
-use Rattle.sc_base.specs.declared.id.Cond.{Cond}
-use Rattle.sc_base.specs.declared.id.FileId.{FileId}
-use Rattle.sc_model.proofs.SetLemmas.{IsConfig-Keeps}
-use Rattle.sc_model.specs.Sets.{Sets, Denotes, IsCond, IsConfig, Keeps}
-use Rattle.sc_model.specs.declared.standard.Standard.{Standard}
-use Rattle.sc_prep.specs.declared.including.Part.{Part}
-use Rattle.sc_prep.specs.declared.content.Content.{Content}
-use Rattle.sc_prep.specs.declared.content.Contents.{Contents}
-use Rattle.sc_prep.specs.Contents.{Agrees, AreContents, IsContent, absent, content_at, nested, refused}
-use Rattle.sc_prep.specs.declared.finding.Found.{Found}
-use Rattle.sc_prep.specs.Finding.{AddsFile, LooksUp, part_of}
-use Rattle.sc_prep.specs.Includes.{files_at}
-use Rattle.sc_prep.specs.Printable.{ArePlainPaths}
+use Rattle.sc_prep.proofs.Facts.{All-cons, All-head, All-nil, All-push, IsConfig-Keeps, drop_more, eqb-true, map-append, position-Some, take-append-drop}
 use Rattle.sc_prep.proofs.ListsAt.{all-unmap, items-keeps, items-push, map-next}
+use Rattle.sc_prep.proofs.Terms.{AddsFile, ArePlainPaths, Cond, Content, Contents, Denotes, File, FileId, Files, Found, IsCond, IsConfig, Keeps, LooksUp, Part, Rc, Sets, Standard, file_with, files_at, found_or, has_no_newline, option_map, part_of, search}
+use Rattle.sc_prep.specs.Contents.{Agrees, AreContents, IsContent, absent, content_at, nested, refused}
 
 -- a name on one line that comes to a table of such names
 pub interned-plain : {old new : List (List ℕ)} {name : List ℕ} → Interns old new name → ArePlainPaths (name ∷ []) → ArePlainPaths old → ArePlainPaths new

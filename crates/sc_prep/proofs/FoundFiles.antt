@@ -1,31 +1,11 @@
 -- The files of headers, found one header after the other.
-use Rattle.std.proofs.Common.{◌≡◌, ℕ, ◌+◌, ◌<◌, ◌≤◌, ◌||◌, is_none, Bool, true, false, List, [], ◌∷◌, ◌++◌, take, length, get_or, Option, Some, None, append-nil, refl, sym, ap, subst, ◌∙◌, arith, if◌then◌else◌}
-use Rattle.std.proofs.lemmas.List.Elements.{All-from_recursion, All-nil, recursion_from_All}
-use Rattle.std.specs.Option.{option_to_list}
-use Rattle.std.specs.Prelude.{string_bytes}
-use Rattle.c11_headers.specs.Headers.{candidates}
-use Rattle.sc_base.proofs.Growth.{Extends-keeps}
-use Rattle.sc_base.specs.declared.id.FileId.{FileId}
-use Rattle.sc_include.specs.declared.header.Header.{Header}
-use Rattle.sc_include.specs.Seen.{seen_header}
-use Rattle.sc_model.proofs.SetLemmas.{IsConfig-Keeps}
-use Rattle.sc_model.specs.Bytes.{has_no_newline}
-use Rattle.sc_model.specs.Growth.{Extends}
-use Rattle.sc_model.specs.Outside.{Files}
-use Rattle.sc_model.specs.Sets.{Sets, Denotes, IsCond, IsConfig, Keeps}
-use Rattle.sc_model.specs.declared.standard.Standard.{Standard}
+use Rattle.std.proofs.Common.{◌≡◌, ℕ, ◌+◌, ◌<◌, ◌≤◌, ◌||◌, is_none, Bool, true, false, List, [], ◌∷◌, ◌++◌, take, length, get_or, Option, Some, None, append-nil, refl, sym, ap, subst, ◌∙◌, arith, if◌then◌else◌, string_bytes}
 use Rattle.sc_prep.proofs.Contents.{agrees-back}
+use Rattle.sc_prep.proofs.Facts.{All-from_recursion, All-nil, Extends-keeps, IsConfig-Keeps, recursion_from_All}
 use Rattle.sc_prep.proofs.ListsAt.{items-next}
 use Rattle.sc_prep.proofs.PlainWalks.{candidates-plain}
-use Rattle.sc_prep.specs.Contents.{Agrees, AreContents, KeepsContents, content_at}
-use Rattle.sc_prep.specs.declared.content.Contents.{Contents}
-use Rattle.sc_prep.specs.declared.finding.Found.{Found}
-use Rattle.sc_prep.specs.declared.including.Part.{Part}
-use Rattle.sc_prep.specs.declared.naming.Named.{Named}
+use Rattle.sc_prep.proofs.Terms.{Agrees, AreContents, ArePartsOf, ArePlainPaths, Contents, Denotes, Extends, FileId, Files, Found, Header, IsCond, IsConfig, Keeps, KeepsContents, Named, Part, Sets, Standard, candidates, content_at, files_at, has_no_newline, headers_in, option_to_list, seen_header}
 use Rattle.sc_prep.specs.Finding.{AddsFile, AreFound, FindsAll, IsSearched, absent, found, missing, none, present}
-use Rattle.sc_prep.specs.Includes.{ArePartsOf, files_at}
-use Rattle.sc_prep.specs.Naming.{headers_in}
-use Rattle.sc_prep.specs.Printable.{ArePlainPaths}
 
 -- what is kept of the files of the parts stays
 pub parts-kept : {s : Sets} {was now : Contents} {parts : List Part} → KeepsContents was now → ArePartsOf s was parts → ArePartsOf s now parts

@@ -1,49 +1,21 @@
 -- How far a walk has gone: what it leads to from its start, while the tables grow.
-use Rattle.std.proofs.Common.{◌≡◌, ℕ, ◌+◌, ◌<◌, Bool, true, false, List, [], ◌∷◌, All, map, length, Option, Some, None, Result, Ok, Err, if◌then◌else◌, refl, sym, ap, ◌∙◌, subst, arith}
-use Rattle.std.proofs.lemmas.List.Elements.{All-head}
-use Rattle.std.proofs.lemmas.Option.{same_Some}
-use Rattle.std.specs.List.{AllByRecursion as Every}
-use Rattle.std.specs.Prelude.{slice_get, unwrap_or}
-use Rattle.c11_directives.specs.Behind.{Says}
+use Rattle.std.proofs.Common.{◌≡◌, ℕ, ◌+◌, ◌<◌, Bool, true, false, List, [], ◌∷◌, All, map, length, Option, Some, None, Result, Ok, Err, if◌then◌else◌, refl, sym, ap, ◌∙◌, subst, arith, slice_get}
 use Rattle.c11_directives.specs.declared.directive.Directive.TheVariants as directive
-use Rattle.c11_directives.specs.Lines.{Line, hash_of, line_of}
-use Rattle.c11_directives.specs.Pre.{Context, State, File, Enters, back, deeper, entered, file_with, found_or, included, put_out, search, is_once_file, left_out}
 use Rattle.c11_headers.specs.Headers.{Header, candidates, header_of}
-use Rattle.c11_macros.specs.Results.{result_map}
-use Rattle.sc_base.proofs.Growth.{Extends-keeps, Extends-trans}
-use Rattle.sc_base.specs.declared.id.FileId.{FileId}
 use Rattle.sc_base.specs.declared.token.Token as base
-use Rattle.sc_base.specs.Seen.{seen, text_at}
 use Rattle.sc_lines.specs.declared.line.Line as declared
-use Rattle.sc_lines.specs.Nests.{seen_line}
-use Rattle.sc_lines.specs.Split.{token_lines, tokens_of}
-use Rattle.sc_model.proofs.SetLemmas.{Keeps-trans}
-use Rattle.sc_model.specs.Fault.{Fault}
-use Rattle.sc_model.specs.Growth.{Extends}
-use Rattle.sc_model.specs.Outside.{Files}
-use Rattle.sc_model.specs.Sets.{Sets, IsConfig, Keeps}
-use Rattle.sc_model.specs.Space.{Space}
 use Rattle.sc_model.specs.Token.{Token}
-use Rattle.sc_model.specs.declared.standard.Standard.{Standard}
 use Rattle.sc_prep.proofs.BetweenRuns.{arriving-between, carries-run, closing-between, refused-acts}
 use Rattle.sc_prep.proofs.Contents.{agrees-back, tokens-later}
+use Rattle.sc_prep.proofs.Facts.{All-head, Extends-keeps, Extends-trans, Keeps-trans, same_Some}
 use Rattle.sc_prep.proofs.InFile.{inside-as, whereabouts}
 use Rattle.sc_prep.proofs.LeadMoves.{contents-then, leads-then}
 use Rattle.sc_prep.proofs.Machine.{inert_arriving}
 use Rattle.sc_prep.proofs.NamedFiles.{sound-plain}
 use Rattle.sc_prep.proofs.PlainRuns.{covers-plain, each-leads, takes-plain}
-use Rattle.sc_prep.specs.Contents.{Agrees, AreContents, AreHeldLines, KeepsContents}
+use Rattle.sc_prep.proofs.Terms.{Agrees, AllByRecursion as Every, AllPass, AreContents, AreHeldLines, ArePlainPaths, CarriesOut, Closed, Contents, Context, Enters, EntersAt, Entry, Extends, Fault, File, FileId, FileLines, Files, Finds, IsBetweenRuns, IsConfig, IsContext, IsIn, IsPlaced, IsPlainState, IsPlainToken, IsSound, Keeps, KeepsContents, Leads, Line, Machine, PlainEach, RunExpands, Says, Sets, Simulates, Space, Standard, State, Takes, Walk, acts, arriving, back, carries, closing_run, deeper, entered, file_with, found_or, hash_of, included, is_once_file, is_plain, left_out, line_of, put_out, result_map, search, seen, seen_line, text_at, token_lines, tokens_of, unwrap_or}
 use Rattle.sc_prep.specs.Includes as includes
-use Rattle.sc_prep.specs.Includes.{EntersAt, Finds}
 use Rattle.sc_prep.specs.Machine as machine
-use Rattle.sc_prep.specs.Machine.{Machine, CarriesOut, RunExpands, Takes, acts, arriving, carries, closing_run}
-use Rattle.sc_prep.specs.Printable.{AllPass, ArePlainPaths, IsPlaced, IsPlainState, IsPlainToken, is_plain}
-use Rattle.sc_prep.specs.Simulates.{Closed, IsBetweenRuns, IsContext, IsIn, Leads, PlainEach, Simulates}
-use Rattle.sc_prep.specs.declared.content.Contents.{Contents}
-use Rattle.sc_prep.specs.declared.content.FileLines.{FileLines}
-use Rattle.sc_prep.specs.declared.entry.Entry.{Entry}
-use Rattle.sc_prep.specs.declared.walk.Walk.{Walk}
-use Rattle.sc_space.specs.Sound.{IsSound}
 
 -- what a walk did from one point to a later one
 pub record Gone (space : Space) (old : Sets) (names files : List (List ℕ)) (walk : Walk) (contents : Contents) (new : Sets) (more more_files : List (List ℕ)) (next : Walk) (now : Contents)

@@ -1,30 +1,15 @@
 -- Headers that are read from one alternative after the other.
-use Rattle.std.proofs.Common.{◌≡◌, ℕ, ◌+◌, ◌<◌, ◌||◌, Bool, true, false, List, [], ◌∷◌, ◌++◌, All, map, take, length, get_or, Result, Ok, Err, append-nil, refl, sym, ap, subst, ◌∙◌, if◌then◌else◌}
-use Rattle.std.proofs.lemmas.List.{map-append}
-use Rattle.std.proofs.lemmas.List.Elements.{All-nil, All-push, recursion_from_All}
-use Rattle.std.specs.List.{AllByRecursion as Every}
-use Rattle.std.specs.Prelude.{string_bytes}
+use Rattle.std.proofs.Common.{◌≡◌, ℕ, ◌+◌, ◌<◌, ◌||◌, Bool, true, false, List, [], ◌∷◌, ◌++◌, All, map, take, length, get_or, Result, Ok, Err, append-nil, refl, sym, ap, subst, ◌∙◌, if◌then◌else◌, string_bytes}
 use Rattle.c11_headers.specs.Headers as headers
-use Rattle.sc_base.specs.declared.id.Cond.{Cond}
 use Rattle.sc_base.specs.declared.token.Token as base
-use Rattle.sc_base.specs.Seen.{seen}
-use Rattle.sc_guarded.proofs.ItemLemmas.{map-one}
-use Rattle.sc_include.specs.declared.header.Header.{Header}
-use Rattle.sc_include.specs.Seen.{NamesHeader, seen_header}
-use Rattle.sc_model.proofs.SetLemmas.{IsConfig-Keeps}
-use Rattle.sc_model.specs.Bytes.{has_no_newline}
-use Rattle.sc_model.specs.declared.cause.Cause.{Cause}
-use Rattle.sc_model.specs.declared.cause.Cause.TheVariants.{BadInclude}
-use Rattle.sc_model.specs.Sets.{Sets, Denotes, IsCond, Keeps}
 use Rattle.sc_model.specs.Token.{Token}
+use Rattle.sc_prep.proofs.Facts.{All-nil, All-push, IsConfig-Keeps, map-append, map-one, recursion_from_All}
+use Rattle.sc_prep.proofs.ListsAt.{items-keeps, items-next, items-push}
+use Rattle.sc_prep.proofs.PlainWalks.{header-plain}
+use Rattle.sc_prep.proofs.Terms.{AddsHeader, AllByRecursion as Every, AreHeaders, BadInclude, Cause, Cond, Denotes, Header, IsCond, Keeps, Named, NamesAll, NamesHeader, OwnsHeaders, Sets, has_no_newline, headers_in, is_plain, is_unnamed, named_in, seen, seen_header, unnamed_in, with_named}
 use Rattle.sc_prep.specs.Alternatives.{alternative_tokens, tokens_in}
 use Rattle.sc_prep.specs.declared.alternatives.Alternative.{Alternative}
 use Rattle.sc_prep.specs.declared.naming.Headers.{Headers}
-use Rattle.sc_prep.specs.declared.naming.Named.{Named}
-use Rattle.sc_prep.specs.Naming.{AddsHeader, AreHeaders, NamesAll, OwnsHeaders, headers_in, is_unnamed, named_in, unnamed_in, with_named}
-use Rattle.sc_prep.specs.Printable.{is_plain}
-use Rattle.sc_prep.proofs.ListsAt.{items-keeps, items-next, items-push}
-use Rattle.sc_prep.proofs.PlainWalks.{header-plain}
 
 or_false : (b : Bool) → (b || false) ≡ b
 or_false true = refl

@@ -1,14 +1,8 @@
 -- What the tables hold of a walk as it goes on.
 use Rattle.std.proofs.Common.{ℕ, ◌<◌, Bool, List, [], ◌∷◌, ◌++◌, All, sym, subst}
-use Rattle.std.proofs.lemmas.List.Elements.{All-append, All-map, All-push}
 use Rattle.sc_base.specs.declared.fault.Fault.{Fault}
-use Rattle.sc_base.specs.declared.id.Cond.{Cond}
-use Rattle.sc_base.specs.declared.token.Token.{Token}
-use Rattle.sc_guarded.proofs.ItemLemmas.{under}
-use Rattle.sc_model.specs.Sets.{Sets}
-use Rattle.sc_prep.specs.Closes.{RefusesEach}
-use Rattle.sc_prep.specs.declared.walk.Walk.{Walk}
-use Rattle.sc_prep.specs.Printable.{AreHeld, IsHeldWalk, IsPlaced}
+use Rattle.sc_prep.proofs.Facts.{All-append, All-map, All-push, under}
+use Rattle.sc_prep.proofs.Terms.{AreHeld, Cond, IsHeldWalk, IsPlaced, RefusesEach, Sets, Token, Walk}
 
 -- a fault in a file of the table
 pub refused-held : {old new : Sets} (names : List (List ℕ)) (files : ℕ) (test : Token → Bool) (w next : Walk) (fault : Fault) → RefusesEach old w (fault ∷ []) new next

@@ -1,22 +1,10 @@
 -- The lines of a file leave a machine in the file, and one that takes none of them stays so.
-use Rattle.std.proofs.Common.{◌≡◌, ℕ, ◌&&◌, not, Bool, true, false, List, [], ◌∷◌, Option, Some, None, Result, Ok, Err, refl, sym, ap, ◌∙◌, subst}
-use Rattle.std.specs.List.{AllByRecursion as Every}
-use Rattle.std.specs.Prelude.{IfOk, is_none, if◌then◌else◌}
-use Rattle.c11_directives.specs.declared.directive.Conditional.{Conditional}
-use Rattle.c11_directives.specs.declared.directive.Conditional.TheVariants.{Opening, Alternative, Else, Endif}
-use Rattle.c11_directives.specs.declared.directive.Directive.{Directive}
-use Rattle.c11_directives.specs.Lines.{Line, conditional_of}
-use Rattle.c11_directives.specs.Pre.{Context, State, Carries, changed, not_changed, not_expanded, numbered, not_numbered, no_header, too_deep, included, back, is_barrier, put_out, state_behind, with_text}
-use Rattle.c11_macros.specs.Macros.{Macros}
-use Rattle.c11_macros.specs.Results.{result_map}
-use Rattle.sc_model.specs.declared.cause.Cause.{Cause}
-use Rattle.sc_model.specs.Fault.{Fault}
+use Rattle.std.proofs.Common.{◌≡◌, ℕ, ◌&&◌, not, Bool, true, false, List, [], ◌∷◌, Option, Some, None, Result, Ok, Err, refl, sym, ap, ◌∙◌, subst, IfOk, is_none, if◌then◌else◌}
 use Rattle.sc_model.specs.Token.{Token}
-use Rattle.sc_prep.specs.declared.entry.Entry.{Entry}
-use Rattle.sc_prep.specs.Machine.{Machine, acts, acting, refusing, opened, opened_as, next_branch, branched_as, ended, closing_run, changed_by, changing, plain_by, is_taken, step_by, step, asks_by, arriving, Takes, takes, closes, carries, Runs, start}
+use Rattle.sc_prep.proofs.Machine.{inert_plain, inert_takes}
+use Rattle.sc_prep.proofs.Terms.{AllByRecursion as Every, Alternative, Carries, Cause, Conditional, Context, Directive, Else, Endif, Entry, Fault, Line, Machine, Macros, Opening, Runs, State, Takes, acts, arriving, asks_by, back, branched_as, carries, changed, changed_by, changing, closes, closing_run, conditional_of, ended, included, is_barrier, next_branch, no_header, not_changed, not_expanded, not_numbered, numbered, opened, opened_as, plain_by, put_out, result_map, state_behind, step_by, takes, too_deep, with_text}
 use Rattle.sc_prep.specs.Machine as machine
 use Rattle.sc_prep.specs.Simulates.{IsInside, IsIn, IsAtTop, begins, idles}
-use Rattle.sc_prep.proofs.Machine.{inert_plain, inert_takes}
 
 -- ---- the file of a state, and how deep it is
 

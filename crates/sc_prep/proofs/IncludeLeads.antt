@@ -1,40 +1,16 @@
 -- What a line leads to that includes files.
-use Rattle.std.proofs.Common.{◌≡◌, ℕ, zero, suc, ◌+◌, ◌<◌, ◌≤◌, drop, true, List, [], ◌∷◌, All, length, get_or, Option, Some, if◌then◌else◌, refl, sym, ap, ◌∙◌, subst, arith}
-use Rattle.std.proofs.lemmas.List.Elements.{All-drop, All-weaker, All-map}
-use Rattle.std.specs.Prelude.{map}
+use Rattle.std.proofs.Common.{◌≡◌, ℕ, zero, suc, ◌+◌, ◌<◌, ◌≤◌, drop, true, List, [], ◌∷◌, All, length, get_or, Option, Some, if◌then◌else◌, refl, sym, ap, ◌∙◌, subst, arith, map}
 use Rattle.c11_directives.specs.declared.directive.Directive.TheVariants as directive
-use Rattle.c11_directives.specs.Pre.{Context}
-use Rattle.sc_base.proofs.Growth.{Extends-refl}
-use Rattle.sc_base.specs.declared.id.Cond.{Cond}
-use Rattle.sc_base.specs.declared.id.FileId.{FileId}
 use Rattle.sc_base.specs.declared.token.Token as base
-use Rattle.sc_base.specs.Seen.{text_at}
-use Rattle.sc_guarded.proofs.ItemLemmas.{items_at-Keeps}
-use Rattle.sc_lines.specs.Nests.{seen_line}
-use Rattle.sc_model.proofs.SetLemmas.{IsConfig-Keeps}
-use Rattle.sc_model.specs.Growth.{Extends}
-use Rattle.sc_model.specs.Outside.{Files}
-use Rattle.sc_model.specs.Sets.{Sets, IsCond, IsConfig, Keeps}
-use Rattle.sc_model.specs.Space.{Space}
-use Rattle.sc_model.specs.declared.standard.Standard.{Standard}
 use Rattle.sc_prep.proofs.CloseMoves.{plain-grown}
+use Rattle.sc_prep.proofs.Facts.{All-drop, All-map, All-weaker, Extends-refl, IsConfig-Keeps, items_at-Keeps}
 use Rattle.sc_prep.proofs.Going.{Gone, Staged, closed-in, directories-plain, finds-staged, gone-then, line-later, staged-between, staged-plain, staged-takes, staged-then}
 use Rattle.sc_prep.proofs.LeadMoves.{contents-stay, leads-as, leads-one}
 use Rattle.sc_prep.proofs.NamedFiles.{line-plain}
 use Rattle.sc_prep.proofs.PlainRuns.{covers-plain, each-any}
+use Rattle.sc_prep.proofs.Terms.{Agrees, AllPass, AreContents, ArePartsOf, ArePlaced, ArePlainPaths, Closed, Cond, Contents, Context, EntersAt, Entry, Extends, FileId, Files, Finds, IsBetweenRuns, IsCond, IsConfig, IsContext, IsIn, IsPlaced, IsSound, Keeps, KeepsContents, Leads, Machine, Part, PlainEach, Sets, SimulatesOneOf, Space, Standard, Takes, Walk, any_machine, content_at, files_at, is_plain, seen_line, text_at}
 use Rattle.sc_prep.proofs.WalkLeads.{plain-later}
-use Rattle.sc_prep.specs.Contents.{Agrees, AreContents, KeepsContents, content_at}
-use Rattle.sc_prep.specs.Includes.{ArePartsOf, EntersAt, Finds, files_at}
 use Rattle.sc_prep.specs.Machine as machine
-use Rattle.sc_prep.specs.Machine.{Machine, Takes}
-use Rattle.sc_prep.specs.Printable.{AllPass, ArePlaced, ArePlainPaths, IsPlaced, is_plain}
-use Rattle.sc_prep.specs.Footprints.{any_machine}
-use Rattle.sc_prep.specs.Simulates.{Closed, IsBetweenRuns, IsContext, IsIn, Leads, PlainEach, SimulatesOneOf}
-use Rattle.sc_prep.specs.declared.content.Contents.{Contents}
-use Rattle.sc_prep.specs.declared.entry.Entry.{Entry}
-use Rattle.sc_prep.specs.declared.including.Part.{Part}
-use Rattle.sc_prep.specs.declared.walk.Walk.{Walk}
-use Rattle.sc_space.specs.Sound.{IsSound}
 
 -- ---- the files that are left
 

@@ -1,38 +1,11 @@
 -- How what the calls of a walk lead to is put together.
-use Rattle.std.proofs.Common.{◌≡◌, ℕ, ◌<◌, ◌≤◌, List, [], ◌∷◌, All, length, Option, Some, Result, inl, inr, arith, sym, ap, ◌∙◌, subst}
-use Rattle.std.proofs.lemmas.List.Elements.{All-nil, All-push}
-use Rattle.std.proofs.lemmas.Option.{slice_get-get_or, unwrap_or-slice_get}
-use Rattle.std.proofs.lemmas.Result.{IfErr-weaker}
-use Rattle.std.specs.Prelude.{IfErr, slice_get}
-use Rattle.sc_base.proofs.Growth.{Extends-refl}
+use Rattle.std.proofs.Common.{◌≡◌, ℕ, ◌<◌, ◌≤◌, List, [], ◌∷◌, All, length, Option, Some, Result, inl, inr, arith, sym, ap, ◌∙◌, subst, IfErr, slice_get}
 use Rattle.sc_base.specs.declared.fault.Fault as base
-use Rattle.sc_base.specs.declared.id.Cond.{Cond}
-use Rattle.sc_base.specs.declared.stop.Stop.{Stop}
-use Rattle.sc_base.specs.declared.stop.Stop.TheVariants.{BranchesFull, ReadFault, OutOfMemory}
-use Rattle.sc_base.specs.Seen.{text_at}
-use Rattle.sc_expand.specs.Stops.{StopsBy}
-use Rattle.sc_model.proofs.SetLemmas.{IsConfig-Keeps}
-use Rattle.sc_model.specs.Growth.{Extends}
-use Rattle.sc_model.specs.Outside.{Files}
-use Rattle.sc_model.specs.Sets.{Sets, IsConfig, IsCond, Keeps}
-use Rattle.sc_model.specs.declared.standard.Standard.{Standard}
 use Rattle.sc_prep.proofs.Contents.{contents-later}
+use Rattle.sc_prep.proofs.Facts.{All-nil, All-push, Extends-refl, IfErr-weaker, IsConfig-Keeps, IsTable-Keeps, slice_get-get_or, unwrap_or-slice_get}
 use Rattle.sc_prep.proofs.Held.{refused-held}
+use Rattle.sc_prep.proofs.Terms.{AreContents, Around, Begins, BranchesFull, Cond, Content, Contents, Extends, Files, IsCond, IsConfig, IsHeldWalk, IsPlaced, IsReady, IsStored, IsTable, Keeps, KeepsContents, Leads, Leaves, Machine, OutOfMemory, Owns, OwnsSection, ReadFault, RefusesEach, Sets, Simulates, SimulatesOneOf, Standard, Stop, Stops, StopsBy, Walk, any_token, content_at, text_at}
 use Rattle.sc_prep.proofs.WalkMoves.{owns-kept}
-use Rattle.sc_prep.specs.Closes.{RefusesEach}
-use Rattle.sc_prep.specs.Contents.{AreContents, KeepsContents, content_at}
-use Rattle.sc_prep.specs.Entering.{Begins, Leaves}
-use Rattle.sc_prep.specs.Machine.{Machine}
-use Rattle.sc_prep.specs.Preprocesses.{Stops}
-use Rattle.sc_prep.specs.Printable.{IsHeldWalk, IsPlaced, any_token}
-use Rattle.sc_prep.specs.Simulates.{IsReady, Leads, Owns, OwnsSection, Simulates, SimulatesOneOf}
-use Rattle.sc_prep.specs.Stages.{IsStored}
-use Rattle.sc_prep.specs.declared.content.Content.{Content}
-use Rattle.sc_prep.specs.declared.content.Contents.{Contents}
-use Rattle.sc_prep.specs.declared.entering.Around.{Around}
-use Rattle.sc_prep.specs.declared.walk.Walk.{Walk}
-use Rattle.sc_table.proofs.Growth.{IsTable-Keeps}
-use Rattle.sc_table.specs.Table.{IsTable}
 
 -- ---- what was kept of files
 

@@ -1,25 +1,9 @@
 -- What is left of a list that has settled, item by item.
-use Rattle.std.proofs.Common.{◌≡◌, ℕ, ◌+◌, ◌≤◌, ◌<◌, ◌&&◌, ◌||◌, not, Bool, true, false, List, [], ◌∷◌, ◌++◌, All, length, map, take, Some, append-nil, refl, sym, ap, subst, ◌∙◌, arith, if◌then◌else◌}
-use Rattle.std.proofs.lemmas.Bool.{and_parts, and_right, not-true}
-use Rattle.std.proofs.lemmas.List.{map-append}
-use Rattle.std.proofs.lemmas.List.Elements.{All-nil, All-push, All-take}
-use Rattle.std.proofs.lemmas.Option.{slice_get_within}
-use Rattle.std.specs.Prelude.{slice_get}
-use Rattle.sc_base.specs.declared.id.Cond.{Cond}
-use Rattle.sc_base.specs.declared.id.Name.{Name}
-use Rattle.sc_base.specs.declared.token.Token.{Token}
-use Rattle.sc_guarded.proofs.ItemLemmas.{items_at-append, items_at-Keeps}
-use Rattle.sc_guarded.specs.Items.{items_at}
-use Rattle.sc_model.proofs.SetLemmas.{Denotes-Keeps, IsConfig-Keeps, Keeps-trans}
-use Rattle.sc_model.specs.Sets.{Denotes, IsCond, IsConfig, IsNever, Keeps, Sets}
-use Rattle.sc_expand.proofs.AlikeLemmas.{none-told}
-use Rattle.sc_expand.proofs.Ending.{take-next}
-use Rattle.sc_expand.specs.declared.settling.Settled.{Settled}
+use Rattle.std.proofs.Common.{◌≡◌, ℕ, ◌+◌, ◌≤◌, ◌<◌, ◌&&◌, ◌||◌, not, Bool, true, false, List, [], ◌∷◌, ◌++◌, All, length, map, take, Some, append-nil, refl, sym, ap, subst, ◌∙◌, arith, if◌then◌else◌, slice_get}
+use Rattle.sc_prep.proofs.Facts.{All-nil, All-push, All-take, Denotes-Keeps, IsConfig-Keeps, Keeps-trans, and_parts, and_right, items_at-Keeps, items_at-append, map-append, none-told, not-true, slice_get_within, take-next}
 use Rattle.sc_prep.proofs.RunLemmas.{and-true, within-as, within-later}
-use Rattle.sc_prep.specs.Closes.{IsPart, IsWithin, has_none}
-use Rattle.sc_prep.specs.declared.settling.Early.{Early}
+use Rattle.sc_prep.proofs.Terms.{AreBare, Cond, Denotes, Early, HasLeft, HidesNone, IsCond, IsConfig, IsEarly, IsNever, IsPart, IsWithin, Keeps, Name, Sets, Settled, StaysAs, Token, has_none, items_at}
 use Rattle.sc_prep.specs.declared.settling.Left.{Left}
-use Rattle.sc_prep.specs.Settles.{AreBare, HasLeft, HidesNone, IsEarly, StaysAs}
 use Rattle.sc_subst.specs.declared.hidden.Hidden.{Hidden}
 
 or-false : (b : Bool) → (b || false) ≡ b

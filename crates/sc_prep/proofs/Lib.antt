@@ -1,3 +1,5 @@
+pub mod Facts
+pub mod Terms
 pub mod ApartLemmas
 pub mod BetweenRuns
 pub mod BranchTokens

@@ -1,27 +1,12 @@
 -- Configurations to which a line has different lists of tokens have different footprints at it.
 use Rattle.std.proofs.Common.{◌≡◌, ℕ, ◌+◌, ◌≤◌, Bool, true, false, List, [], ◌∷◌, All, map, Result, refl, sym, ap, subst, ◌∙◌, if◌then◌else◌}
-use Rattle.std.proofs.lemmas.List.Elements.{All-cons, All-head, All-nil, All-tail}
-use Rattle.c11_directives.specs.Footprints.{HasFootprints, TextHas, Spot, Used, definitions_of, footprint_at, looked_up_in, token_itself, tokens_used}
 use Rattle.c11_macros.proofs.OneAnswer.{one}
-use Rattle.c11_macros.specs.Expansion.{Expands}
-use Rattle.c11_macros.specs.Hidden.{Failure, Hidden}
-use Rattle.c11_macros.specs.Macros.{Macros}
-use Rattle.c11_macros.specs.Text.{TextExpands, place_alone, unhidden}
-use Rattle.c11_macros.specs.Trace.{Agree, Trace, trace}
-use Rattle.sc_base.specs.declared.id.Cond.{Cond}
 use Rattle.sc_base.specs.declared.token.Token as base
-use Rattle.sc_base.specs.Seen.{seen}
-use Rattle.sc_expand.specs.Alike.{DefineTextAlike}
-use Rattle.sc_guarded.specs.Items.{items_at}
-use Rattle.sc_hoist.specs.Alike.{AreAlike, IsAlike}
-use Rattle.sc_hoist.specs.Places.{places_at, places_from}
-use Rattle.sc_model.specs.Fault.{Fault}
-use Rattle.sc_model.specs.Sets.{Sets, IsCond, IsConfig, Keeps}
 use Rattle.sc_model.specs.Token.{Place, Token}
-use Rattle.sc_prep.specs.Apart.{AreDifferent}
-use Rattle.sc_prep.specs.Footprints.{HaveLists}
 use Rattle.sc_prep.proofs.ApartLemmas.{pairs-head, pairs-tail}
+use Rattle.sc_prep.proofs.Facts.{All-cons, All-head, All-nil, All-tail}
 use Rattle.sc_prep.proofs.NameFootprints.{made-all, made-length, made-pairs, made_of, same-definitions}
+use Rattle.sc_prep.proofs.Terms.{Agree, AreAlike, AreDifferent, Cond, DefineTextAlike, Expands, Failure, Fault, HasFootprints, HaveLists, Hidden, IsAlike, IsCond, IsConfig, Keeps, Macros, Sets, Spot, TextExpands, TextHas, Trace, Used, definitions_of, footprint_at, items_at, looked_up_in, place_alone, places_at, places_from, seen, token_itself, tokens_used, trace, unhidden}
 
 -- ---- where no two items are seen as one, the tokens tell which items there are
 

@@ -1,13 +1,9 @@
 -- The number of a line, digit by digit.
-use Rattle.std.proofs.Common.{◌≡◌, ℕ, ◌+◌, ◌-◌, ◌*◌, ◌<◌, ◌≤◌, ◌&&◌, Bool, true, false, List, [], ◌∷◌, drop, length, get_or, refl, ap, ◌∙◌, arith, if◌then◌else◌}
-use Rattle.std.proofs.lemmas.Bool.{and_parts, le-leb, lt-leb}
-use Rattle.std.proofs.lemmas.List.{drop_all, drop_more}
-use Rattle.std.specs.List.{list_all}
-use Rattle.std.specs.Prelude.{nat_le}
-use Rattle.c11_directives.specs.Behind.{greatest_line, is_line_number}
+use Rattle.std.proofs.Common.{◌≡◌, ℕ, ◌+◌, ◌-◌, ◌*◌, ◌<◌, ◌≤◌, ◌&&◌, Bool, true, false, List, [], ◌∷◌, drop, length, get_or, refl, ap, ◌∙◌, arith, if◌then◌else◌, nat_le}
 use Rattle.c11_expressions.specs.Constants.{digit_value, number_behind, number_of}
 use Rattle.c11_tokens.specs.declared.base.Base.TheVariants.{Decimal}
-use Rattle.sc_model.specs.Bytes.{is_digit}
+use Rattle.sc_prep.proofs.Facts.{and_parts, drop_all, drop_more, le-leb, lt-leb}
+use Rattle.sc_prep.proofs.Terms.{greatest_line, is_digit, is_line_number, list_all}
 
 behind_end : (n : ℕ) → number_behind Decimal n [] ≡ n
 unfolding number_behind

@@ -1,23 +1,8 @@
 -- The line of one step: its directive, and its tokens as the table of texts grows.
-use Rattle.std.proofs.Common.{◌≡◌, ℕ, ◌-◌, take, drop, ◌<◌, ◌≤◌, Bool, List, [], ◌∷◌, length, map, Option, None, Result, get_or, refl, sym, ap, ◌∙◌, arith}
-use Rattle.std.proofs.lemmas.List.{length-map, take_all}
-use Rattle.std.proofs.lemmas.List.Elements.{All-head, All-tail, All-take, All-drop}
-use Rattle.std.specs.Prelude.{All, unwrap_or}
-use Rattle.sc_prep.specs.Machine.{Machine, plain_by, step_by, step}
+use Rattle.std.proofs.Common.{◌≡◌, ℕ, ◌-◌, take, drop, ◌<◌, ◌≤◌, Bool, List, [], ◌∷◌, length, map, Option, None, Result, get_or, refl, sym, ap, ◌∙◌, arith, All}
 use Rattle.sc_lines.specs.declared.line.Line as declared
-use Rattle.sc_lines.specs.Branches.{HasBranches}
-use Rattle.sc_prep.specs.Passes.{StandFor}
-use Rattle.sc_lines.specs.Nests.{seen_line, seen_lines}
-use Rattle.sc_model.specs.Fault.{Fault}
-use Rattle.sc_model.specs.Growth.{Extends}
-use Rattle.sc_model.specs.declared.standard.Standard.{Standard}
-use Rattle.sc_base.specs.declared.token.Token.{Token}
-use Rattle.sc_base.specs.Seen.{IsHeld, seen, seen_place}
-use Rattle.sc_lines.specs.Split.{AreLines, directive_at, tokens_of}
-use Rattle.sc_lines.proofs.SeenLines.{conditionals-seen, directive-files, directive-own, lines-seen}
-use Rattle.c11_directives.specs.declared.directive.Conditional.{Conditional}
-use Rattle.c11_directives.specs.declared.directive.Directive.{Directive}
-use Rattle.c11_directives.specs.Lines.{Line, conditional_in, directive_of, directives_of, line_of}
+use Rattle.sc_prep.proofs.Facts.{All-drop, All-head, All-tail, All-take, conditionals-seen, directive-files, directive-own, length-map, lines-seen, take_all}
+use Rattle.sc_prep.proofs.Terms.{AreLines, Conditional, Directive, Extends, Fault, HasBranches, IsHeld, Line, Machine, StandFor, Standard, Token, conditional_in, directive_at, directive_of, directives_of, line_of, plain_by, seen, seen_line, seen_lines, seen_place, step, step_by, tokens_of, unwrap_or}
 
 -- a directive has a first token
 pub directive-long : (standard : Standard) (names : List (List ℕ)) (line : List Token) (d : Option Directive) → d ≡ directive_at standard names line → (d ≡ None → ⊥) → 0 < length line

@@ -1,11 +1,7 @@
 -- What stands at a configuration of lists whose items have a condition.
 use Rattle.std.proofs.Common.{◌≡◌, ℕ, ◌+◌, ◌<◌, List, [], ◌∷◌, ◌++◌, All, map, take, length, get_or, sym, ap, ◌∙◌, if◌then◌else◌}
-use Rattle.std.proofs.lemmas.List.{map-append, take_more}
-use Rattle.std.proofs.lemmas.List.Elements.{All-cons, All-head, All-map, All-nil, All-tail}
-use Rattle.sc_base.specs.declared.id.Cond.{Cond}
-use Rattle.sc_guarded.proofs.ItemLemmas.{items_at-append, items_at-Keeps}
-use Rattle.sc_guarded.specs.Items.{items_at}
-use Rattle.sc_model.specs.Sets.{Sets, IsCond, IsConfig, Keeps}
+use Rattle.sc_prep.proofs.Facts.{All-cons, All-head, All-map, All-nil, All-tail, items_at-Keeps, items_at-append, map-append, take_more}
+use Rattle.sc_prep.proofs.Terms.{Cond, IsCond, IsConfig, Keeps, Sets, items_at}
 
 module _ {A T : Type 0} (f : A → Cond × T) where
   pub items-push : (s : Sets) (xs : List A) (x : A) (c : List ℕ) → items_at s (map f (xs ++ x ∷ [])) c ≡ items_at s (map f xs) c ++ (if s.has (f x).0.0 c then (f x).1 ∷ [] else [])

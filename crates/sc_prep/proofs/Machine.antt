@@ -1,27 +1,10 @@
 -- The walk of one configuration over the lines of a file as they come, and that it is the walk of
 -- their groups.
-use Rattle.std.proofs.Common.{◌≡◌, ◌&&◌, not, Bool, true, false, List, [], ◌∷◌, ◌++◌, map, Option, Some, None, Result, Ok, Err, refl, sym, ap, ◌∙◌, subst}
-use Rattle.std.specs.Option.{option_map}
-use Rattle.std.specs.Prelude.{is_none, unwrap_or, if◌then◌else◌}
-use Rattle.sc_model.specs.declared.cause.Cause.{Cause}
-use Rattle.sc_model.specs.declared.cause.Cause.TheVariants.{Redefined}
-use Rattle.c11_directives.specs.declared.directive.Conditional.{Conditional}
-use Rattle.c11_directives.specs.declared.directive.Conditional.TheVariants.{Alternative, Endif}
-use Rattle.c11_directives.specs.declared.directive.Directive.{Directive}
-use Rattle.c11_directives.specs.declared.directive.Test.{Test}
+use Rattle.std.proofs.Common.{◌≡◌, ◌&&◌, not, Bool, true, false, List, [], ◌∷◌, ◌++◌, map, Option, Some, None, Result, Ok, Err, refl, sym, ap, ◌∙◌, subst, is_none, if◌then◌else◌}
 use Rattle.c11_directives.specs.declared.directive.Directive.TheVariants as directive
-use Rattle.c11_directives.specs.Behind.{behind_name}
-use Rattle.c11_directives.specs.Lines.{Line, line_of, hash_of, conditional_in, conditional_of, Group, Branches, empty, plain, section, closing, otherwise, alternative, group_lines, branch_lines, IsGroup, AreBranches, Opens}
-use Rattle.sc_model.specs.Fault.{Fault, first_place}
-use Rattle.c11_directives.specs.Pre.{Context, State, place_in, with_text, put_out, closed, refused, RefusedAt, Decides, with_macro, Defines, fresh, again, redefined, is_barrier, is_said, Changes, ignored, unknown, error, defines, defines_nothing, undefines, state_behind, Steps, text, null, stopped, carried_out, Carries, changed, not_changed, Walks, done, line, line_stops, taken, taken_stops, passed, passed_stops, head_stops, WalksBranches, none_taken, last_taken, later_taken, later_passed, later_stops}
 use Rattle.sc_model.specs.Token.{Token}
-use Rattle.sc_model.specs.declared.standard.Standard.{Standard}
-use Rattle.c11_macros.specs.Defines.{Defined, reads}
-use Rattle.c11_macros.specs.Macros.{Definition, Macros}
-use Rattle.c11_macros.specs.Same.{same_definition}
-use Rattle.c11_macros.specs.Text.{TextExpands}
-use Rattle.c11_macros.proofs.SameLaws.{same_definition-true, same_definition-false}
-use Rattle.sc_prep.specs.Machine.{Machine, acts, refusal, refusing, acting, turned, opened, opened_as, next_branch, branched_as, ended, closing_run, is_taken, defined_over, defined_as, changed_by, changing, plain_by, plain_step, step_by, step, asks_by, Answers, ends_run, arriving, Decided, Takes, takes, closes, carries, Runs}
+use Rattle.sc_prep.proofs.Facts.{same_definition-false, same_definition-true}
+use Rattle.sc_prep.proofs.Terms.{Alternative, Answers, AreBranches, Branches, Carries, Cause, Changes, Conditional, Context, Decided, Decides, Defined, Defines, Definition, Directive, Endif, Fault, Group, IsGroup, Line, Machine, Macros, Opens, Redefined, RefusedAt, Runs, Standard, State, Steps, Takes, Test, TextExpands, Walks, WalksBranches, acting, acts, again, alternative, arriving, asks_by, behind_name, branch_lines, branched_as, carried_out, carries, changed, changed_by, changing, closed, closes, closing, closing_run, conditional_in, conditional_of, defined_as, defined_over, defines, defines_nothing, done, empty, ended, ends_run, error, first_place, fresh, group_lines, hash_of, head_stops, ignored, is_barrier, is_said, last_taken, later_passed, later_stops, later_taken, line, line_of, line_stops, next_branch, none_taken, not_changed, null, opened, opened_as, option_map, otherwise, passed, passed_stops, place_in, plain, plain_by, plain_step, put_out, reads, redefined, refusal, refused, refusing, same_definition, section, state_behind, step, step_by, stopped, taken, taken_stops, takes, text, turned, undefines, unknown, unwrap_or, with_macro, with_text}
 use Rattle.sc_prep.specs.Machine as machine
 
 -- ---- one line after another

@@ -1,58 +1,20 @@
 -- A walk of the main file, from before its first line.
-use Rattle.std.proofs.Common.{◌≡◌, ℕ, ◌<◌, ◌++◌, Bool, true, false, List, [], ◌∷◌, All, length, map, Option, Some, None, Result, Err, refl, sym, ap, ◌∙◌, subst, arith}
-use Rattle.std.proofs.lemmas.List.Elements.{All-append, All-cons, All-nil}
-use Rattle.std.proofs.lemmas.Bool.{both_ways}
-use Rattle.std.specs.Option.{option_to_list}
-use Rattle.std.specs.Prelude.{is_none, unwrap_or, slice_get}
+use Rattle.std.proofs.Common.{◌≡◌, ℕ, ◌<◌, ◌++◌, Bool, true, false, List, [], ◌∷◌, All, length, map, Option, Some, None, Result, Err, refl, sym, ap, ◌∙◌, subst, arith, is_none, slice_get}
 use Rattle.c11_directives.proofs.PreLaws.{pre-unique}
-use Rattle.c11_directives.specs.Footprints.{Has, MomentsHave}
-use Rattle.c11_directives.specs.Pre.{Context, Includes, Pre, State, context_of, entered, file_with, found_or, initial_state}
-use Rattle.c11_macros.specs.Macros.{initial_macros}
-use Rattle.sc_base.specs.declared.fault.Fault as base
-use Rattle.sc_base.specs.declared.id.Cond.{Cond}
-use Rattle.sc_base.specs.declared.id.FileId.{FileId}
-use Rattle.sc_base.specs.declared.stop.Stop.{Stop}
-use Rattle.sc_base.specs.declared.token.Token.{Token}
 use Rattle.sc_base.specs.Interns as interns
 use Rattle.sc_base.specs.Interns.{Interns}
+use Rattle.sc_base.specs.declared.fault.Fault as base
 use Rattle.sc_base.specs.declared.place.Place as declared
-use Rattle.sc_base.specs.Seen.{seen, seen_place, text_at}
-use Rattle.sc_guarded.specs.Items.{faults_at, items_at, seen_fault}
-use Rattle.sc_guarded.specs.Printable.{AreApart}
-use Rattle.sc_model.proofs.SetLemmas.{IsConfig-kept}
-use Rattle.sc_model.specs.Bytes.{has_no_newline}
-use Rattle.sc_model.specs.Growth.{Extends}
-use Rattle.sc_model.specs.Outside.{Files}
-use Rattle.sc_model.specs.Sets.{Sets, IsCond, IsConfig, Keeps}
-use Rattle.sc_model.specs.Space.{IsListed, Space, arities_of}
-use Rattle.sc_model.specs.declared.cause.Cause.{Cause}
-use Rattle.sc_model.specs.Fault.{Fault, fault_at, first_place}
 use Rattle.sc_model.specs.Token as plain
-use Rattle.sc_model.specs.declared.standard.Standard.{Standard}
 use Rattle.sc_prep.proofs.EnterLeads.{HasRefusal, has-lines, has-refusal}
 use Rattle.sc_prep.proofs.EnterMoves.{refused-here}
+use Rattle.sc_prep.proofs.Facts.{All-append, All-cons, All-nil, IsConfig-kept, IsTable-Extends, both_ways}
 use Rattle.sc_prep.proofs.FileTokens.{all-shown, faults-few}
 use Rattle.sc_prep.proofs.MainWalk.{begins-as, entered-ordinary, finds-main}
 use Rattle.sc_prep.proofs.Plain.{initial-plain}
 use Rattle.sc_prep.proofs.Stopping.{moments-as, stops-as}
-use Rattle.sc_prep.specs.Closes.{RefusesEach, has_none, is_empty}
-use Rattle.sc_prep.specs.Contents.{AreContents, IsContent, IsHeldContent, content_at, end_of_file, end_place}
-use Rattle.sc_prep.specs.declared.content.Content.{Content}
+use Rattle.sc_prep.proofs.Terms.{AllPass, AreApart, AreContents, AreOnceHeld, ArePlaced, ArePlainPaths, CanBeShown, Cause, Comes, ComesInside, Cond, Content, Contents, Context, EntersAt, Extends, Fault, FileId, Files, Has, Includes, IsBegun, IsBetweenRuns, IsCond, IsConfig, IsContent, IsContext, IsHeldContent, IsListed, IsOrdinary, IsOutcomeOf, IsReady, IsRefused, IsSound, IsTable, Keeps, Leads, Machine, MacroTable, MomentsHave, Owns, OwnsList, PlainEach, Pre, Prepared, RefusesEach, Sets, Simulates, Space, Standard, State, Stop, StopsAmong, StopsAtPlace, Token, Walk, any_token, arities_of, content_at, context_of, end_of_file, end_place, entered, fault_at, faults_at, file_with, first_place, found_or, has_no_newline, has_none, initial_macros, initial_state, is_accepted, is_empty, is_plain, items_at, macros_at, option_to_list, seen, seen_fault, seen_place, start, text_at, unwrap_or}
 use Rattle.sc_prep.specs.declared.content.Content.TheVariants as content
-use Rattle.sc_prep.specs.declared.prepared.Prepared.{Prepared}
-use Rattle.sc_prep.specs.declared.content.Contents.{Contents}
-use Rattle.sc_prep.specs.declared.walk.Walk.{Walk}
-use Rattle.sc_prep.specs.Footprints.{Comes, ComesInside, StopsAmong, StopsAtPlace}
-use Rattle.sc_prep.specs.Includes.{EntersAt}
-use Rattle.sc_prep.specs.Machine.{Machine, start}
-use Rattle.sc_prep.specs.Once.{AreOnceHeld}
-use Rattle.sc_prep.specs.Preprocesses.{IsOrdinary, IsRefused, OwnsList, is_accepted}
-use Rattle.sc_prep.specs.Printable.{AllPass, ArePlaced, ArePlainPaths, CanBeShown, any_token, is_plain}
-use Rattle.sc_prep.specs.Simulates.{IsBegun, IsBetweenRuns, IsContext, IsOutcomeOf, IsReady, Leads, Owns, PlainEach, Simulates}
-use Rattle.sc_space.specs.Sound.{IsSound}
-use Rattle.sc_table.proofs.Growth.{IsTable-Extends}
-use Rattle.sc_table.specs.declared.table.MacroTable.{MacroTable}
-use Rattle.sc_table.specs.Table.{IsTable, macros_at}
 
 -- ---- nothing was read yet
 

@@ -1,27 +1,11 @@
 -- What walking the main file comes to.
 use Rattle.std.proofs.Common.{◌≡◌, ℕ, true, List, [], ◌∷◌, map, Some, None, Ok, Err, refl, sym, ap, ◌∙◌}
-use Rattle.c11_directives.specs.Pre.{File, file_with, found_or, Enters, Includes, missing, entered, context_of, initial_state, search, Pre}
-use Rattle.c11_macros.specs.Macros.{initial_macros}
-use Rattle.sc_model.specs.declared.cause.Cause.TheVariants.{NotFound}
-use Rattle.sc_model.specs.Fault.{Fault, fault_at, first_place}
-use Rattle.sc_model.specs.Growth.{Extends}
-use Rattle.sc_model.specs.Outside.{Files}
-use Rattle.sc_model.specs.Sets.{Sets}
-use Rattle.sc_model.specs.Space.{Space}
 use Rattle.sc_model.specs.Token.{Token}
-use Rattle.sc_base.specs.Seen.{seen}
-use Rattle.sc_guarded.specs.Items.{items_at}
 use Rattle.sc_prep.proofs.BetweenRuns.{enters-run}
+use Rattle.sc_prep.proofs.Facts.{macros_at-Extends}
 use Rattle.sc_prep.proofs.SettledText.{text-empty}
-use Rattle.sc_prep.specs.Gathered.{HasText}
-use Rattle.sc_prep.specs.declared.prepared.Prepared.{Prepared}
+use Rattle.sc_prep.proofs.Terms.{Enters, Extends, Fault, File, Files, HasText, Includes, IsBegun, IsOrdinary, IsOutcomeOf, IsRefused, IsTable, Machine, MacroTable, NotFound, Pre, Prepared, Sets, Space, context_of, entered, fault_at, file_with, first_place, found_or, initial_macros, initial_state, items_at, macros_at, missing, search, seen, start}
 use Rattle.sc_prep.specs.Includes.{EntersAt, inert, left_out, enters}
-use Rattle.sc_prep.specs.Machine.{Machine, start}
-use Rattle.sc_prep.specs.Preprocesses.{IsOrdinary, IsRefused}
-use Rattle.sc_prep.specs.Simulates.{IsBegun, IsOutcomeOf}
-use Rattle.sc_table.specs.declared.table.MacroTable.{MacroTable}
-use Rattle.sc_table.specs.Table.{IsTable, macros_at}
-use Rattle.sc_table.proofs.Growth.{macros_at-Extends}
 
 -- the main file is found
 pub finds-main : (outside : Files) (main : List ℕ) (f : File) → f.name ≡ main → outside main ≡ Some f.bytes → search outside (main ∷ []) ≡ Some f

@@ -1,36 +1,16 @@
 -- Footprints of the names of a list, told by its tokens.
 use Rattle.std.proofs.Common.{◌≡◌, ℕ, zero, suc, ◌+◌, ◌-◌, ◌≤◌, Bool, true, false, List, [], ◌∷◌, All, AllPairs, Option, None, Some, Result, drop, length, map, slice_get, take, refl, sym, ap, subst, ◌∙◌, arith, if◌then◌else◌}
-use Rattle.std.proofs.lemmas.List.{length-map}
-use Rattle.std.proofs.lemmas.List.Elements.{All-cons, All-head, All-map, All-nil, All-tail, All-take}
-use Rattle.std.proofs.lemmas.List.Kept.{AllPairs-cons}
-use Rattle.std.proofs.lemmas.Simd.{map-map}
-use Rattle.std.proofs.Math.Seq.{take-nil}
 use Rattle.c11_directives.specs.Footprints as footprints
-use Rattle.c11_directives.specs.Footprints.{DirectiveHas, NameHas, TextHas, Spot, Used, definitions_of, footprint_at, looked_up_in, token_itself, tokens_used}
 use Rattle.c11_macros.specs.Expansion.{Expands, case_of, stays}
-use Rattle.c11_macros.specs.Footprint.{Arrives, Footprint, footprint}
-use Rattle.c11_macros.specs.Hidden.{Failure, Hidden}
-use Rattle.c11_macros.specs.Macros.{Definition, Macros}
-use Rattle.c11_macros.specs.Text.{place_alone, unhidden}
-use Rattle.c11_macros.specs.Trace.{Agree}
-use Rattle.sc_base.specs.declared.id.Cond.{Cond}
-use Rattle.sc_base.specs.declared.stop.Stop.{Stop}
-use Rattle.sc_base.specs.declared.stop.Stop.TheVariants.{BranchesFull, ReadFault, OutOfMemory}
 use Rattle.sc_base.specs.declared.token.Token as base
-use Rattle.sc_base.specs.Seen.{seen}
 use Rattle.sc_expand.proofs.Behind.{length-behind}
-use Rattle.sc_expand.proofs.FootprintLemmas.{one-use}
 use Rattle.sc_expand.specs.Footprints.{IsSameUse, ReplacesAt, StopsAtName, UsesAt, taken_behind}
 use Rattle.sc_expand.specs.Having.{behind_at}
-use Rattle.sc_guarded.specs.Items.{items_at}
-use Rattle.sc_model.specs.declared.kind.Kind.TheVariants.{Other}
-use Rattle.sc_model.specs.Fault.{first_place}
-use Rattle.sc_model.specs.Sets.{Sets, IsConfig}
 use Rattle.sc_model.specs.Token.{Place, Token}
-use Rattle.sc_prep.specs.Apart.{AreDifferent}
-use Rattle.sc_prep.specs.Footprints.{StopsAtPlace}
 use Rattle.sc_prep.proofs.ApartLemmas.{pairs-drop, pairs-head, pairs-tail}
 use Rattle.sc_prep.proofs.CloseMoves.{items_at-All}
+use Rattle.sc_prep.proofs.Facts.{All-cons, All-head, All-map, All-nil, All-tail, All-take, AllPairs-cons, length-map, map-map, one-use, take-nil}
+use Rattle.sc_prep.proofs.Terms.{Agree, AreDifferent, Arrives, BranchesFull, Cond, Definition, Failure, Footprint, Hidden, IsConfig, Macros, NameHas, Other, OutOfMemory, ReadFault, Sets, Spot, Stop, StopsAtPlace, TextHas, Used, definitions_of, first_place, footprint, footprint_at, items_at, looked_up_in, place_alone, seen, token_itself, tokens_used, unhidden}
 
 -- ---- tables that define all names alike give the same footprints
 

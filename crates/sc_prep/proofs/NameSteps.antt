@@ -1,31 +1,13 @@
 -- Whether the name of a line is a macro, under all configurations at once and seen at each (C11
 -- 6.10.1).
-use Rattle.std.proofs.Common.{◌≡◌, ℕ, ◌&&◌, Bool, true, false, List, [], ◌∷◌, map, Option, Some, None, is_some, not, Ok, Err, inl, inr, refl, sym, ap, subst, ◌∙◌, if◌then◌else◌}
-use Rattle.std.proofs.Math.Bool.{and-false, and-true}
-use Rattle.std.proofs.lemmas.Bool.{true≢false}
-use Rattle.std.specs.Option.{option_map}
-use Rattle.std.specs.Prelude.{is_none}
-use Rattle.c11_directives.specs.Lines.{Line, hash_of, test_of}
-use Rattle.c11_directives.specs.Pre.{Context, Decides, State, if_defined, if_undefined, no_name, operand_of, place_in}
-use Rattle.c11_macros.specs.Macros.{Definition, Macros}
+use Rattle.std.proofs.Common.{◌≡◌, ℕ, ◌&&◌, Bool, true, false, List, [], ◌∷◌, map, Option, Some, None, is_some, not, Ok, Err, inl, inr, refl, sym, ap, subst, ◌∙◌, if◌then◌else◌, is_none}
 use Rattle.sc_base.specs.declared.fault.Fault as base
-use Rattle.sc_base.specs.declared.id.Cond.{Cond}
 use Rattle.sc_base.specs.declared.place.Place as base_place
-use Rattle.sc_base.specs.Seen.{seen_place}
-use Rattle.sc_guarded.specs.Items.{faults_at, seen_fault}
-use Rattle.sc_model.proofs.SetLemmas.{IsConfig-Keeps}
-use Rattle.sc_model.specs.declared.cause.Cause.TheVariants.{BadDirective}
-use Rattle.sc_model.specs.Fault.{fault_at}
-use Rattle.sc_model.specs.Sets.{Denotes, IsConfig, Keeps, Sets}
 use Rattle.sc_model.specs.Token.{Token}
-use Rattle.sc_prep.specs.Expressions.{DecidesAt, deciding_done, deciding_fails, deciding_idle}
-use Rattle.sc_prep.specs.Machine.{Machine, is_taken, name_test}
-use Rattle.sc_prep.specs.Simulates.{Simulates, SimulatesOneOf, SimulatesStep}
-use Rattle.sc_prep.specs.declared.walk.Walk.{Walk}
-use Rattle.sc_table.proofs.Growth.{macros_at-Keeps}
-use Rattle.sc_table.specs.Table.{IsTable, macros_at}
 use Rattle.sc_prep.proofs.ExpressionMoves.{asked-at, right-none}
+use Rattle.sc_prep.proofs.Facts.{IsConfig-Keeps, and-false, and-true, macros_at-Keeps, true≢false}
 use Rattle.sc_prep.proofs.StageRefusals.{FaultsAt}
+use Rattle.sc_prep.proofs.Terms.{BadDirective, Cond, Context, Decides, DecidesAt, Definition, Denotes, IsConfig, IsTable, Keeps, Line, Machine, Macros, Sets, Simulates, SimulatesOneOf, SimulatesStep, State, Walk, deciding_done, deciding_fails, deciding_idle, fault_at, faults_at, hash_of, if_defined, if_undefined, is_taken, macros_at, name_test, no_name, operand_of, option_map, place_in, seen_fault, seen_place, test_of}
 
 module _ (x : Context) (l : Line) (s : State) where
   name-decides : (wanted : Bool) (name : List ℕ) → test_of l ≡ Some (name_test wanted) → operand_of l ≡ Some name → Decides x s l (Ok (is_taken s.macros wanted name))

@@ -1,29 +1,16 @@
 -- Where the expansion of what a walk has stops, each configuration's machine comes to a footprint.
-use Rattle.std.proofs.Common.{◌≡◌, ℕ, ◌&&◌, true, List, All, map, sym, subst, ◌∙◌}
-use Rattle.std.specs.Prelude.{is_none}
-use Rattle.c11_directives.specs.Footprints.{NameHas, Spot, Used}
+use Rattle.std.proofs.Common.{◌≡◌, ℕ, ◌&&◌, true, List, All, map, sym, subst, ◌∙◌, is_none}
 use Rattle.c11_macros.specs.Expansion.{IsWithin}
-use Rattle.c11_macros.specs.Text.{place_alone, unhidden}
-use Rattle.sc_base.specs.declared.id.Cond.{Cond}
-use Rattle.sc_base.specs.declared.stop.Stop.{Stop}
 use Rattle.sc_base.specs.declared.token.Token as base
-use Rattle.sc_base.specs.Seen.{seen}
 use Rattle.sc_expand.proofs.PlainTables.{entry_names, within-table}
 use Rattle.sc_expand.specs.Footprints.{StopsAtName}
-use Rattle.sc_guarded.proofs.ItemLemmas.{items_at-Keeps}
-use Rattle.sc_guarded.specs.Items.{items_at}
-use Rattle.sc_model.specs.Sets.{Sets, Denotes, IsCond, Keeps}
-use Rattle.sc_table.proofs.Growth.{macros_at-Keeps}
-use Rattle.sc_table.specs.Table.{IsTable, macros_at}
-use Rattle.sc_prep.specs.Apart.{AreDifferent, StandApart, tokens_in}
-use Rattle.sc_prep.specs.declared.walk.Walk.{Walk}
-use Rattle.sc_prep.specs.Footprints.{Comes, StopsAtPlace, any_machine}
-use Rattle.sc_prep.specs.Machine.{acts}
 use Rattle.sc_prep.proofs.ApartLemmas.{different}
 use Rattle.sc_prep.proofs.ExpressionMoves.{asked-at, right-none}
+use Rattle.sc_prep.proofs.Facts.{items_at-Keeps, macros_at-Keeps}
 use Rattle.sc_prep.proofs.NameFootprints.{name-as, name-footprints}
 use Rattle.sc_prep.proofs.SettledText.{text-name}
 use Rattle.sc_prep.proofs.Stopping.{stops-as}
+use Rattle.sc_prep.proofs.Terms.{AreDifferent, Comes, Cond, Denotes, IsCond, IsTable, Keeps, NameHas, Sets, Spot, StandApart, Stop, StopsAtPlace, Used, Walk, acts, any_machine, items_at, macros_at, place_alone, seen, tokens_in, unhidden}
 
 -- that of the run of each that acts
 pub run-stops : (s : Sets) (names files : List (List ℕ)) (w : Walk) (limit : ℕ) (stop : Stop)

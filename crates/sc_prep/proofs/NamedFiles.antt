@@ -1,41 +1,13 @@
 -- The headers that an #include names, and their files, at each configuration.
-use Rattle.std.proofs.Common.{◌≡◌, ℕ, zero, suc, ◌<◌, ◌≤◌, ◌&&◌, ◌||◌, is_none, Bool, true, false, List, [], ◌∷◌, All, map, length, get_or, Option, Some, None, Result, Ok, Err, refl, sym, ap, subst, ◌∙◌, arith, if◌then◌else◌}
-use Rattle.std.proofs.lemmas.Bool.{and_parts, ne_eqb, not-true, not_from_false, or_from, true≢false}
-use Rattle.std.proofs.lemmas.List.Elements.{All-from_recursion, All-head, All-tail, All-weaker, recursion_from_All}
-use Rattle.std.specs.List.{AllByRecursion as Every, list_all}
-use Rattle.std.specs.Option.{option_map}
-use Rattle.std.specs.Prelude.{◌==◌, nat_le, not, unwrap_or}
-use Rattle.c11_directives.specs.Behind.{Says}
+use Rattle.std.proofs.Common.{◌≡◌, ℕ, zero, suc, ◌<◌, ◌≤◌, ◌&&◌, ◌||◌, is_none, Bool, true, false, List, [], ◌∷◌, All, map, length, get_or, Option, Some, None, Result, Ok, Err, refl, sym, ap, subst, ◌∙◌, arith, if◌then◌else◌, ◌==◌, nat_le, not}
 use Rattle.c11_directives.specs.declared.directive.Directive.TheVariants as directive
-use Rattle.c11_directives.specs.Lines.{Line, hash_of, line_of}
-use Rattle.c11_directives.specs.Pre.{Carries, Context, RefusedAt, State, included, missing, no_header, not_expanded, place_in, search, too_deep}
 use Rattle.c11_headers.specs.Headers as headers
-use Rattle.sc_base.proofs.Growth.{Extends-refl, Extends-trans, Extends-within}
 use Rattle.sc_base.specs.declared.fault.Fault as base_fault
-use Rattle.sc_base.specs.declared.id.Cond.{Cond}
-use Rattle.sc_base.specs.declared.id.FileId.{FileId}
-use Rattle.sc_base.specs.declared.stop.Stop.{Stop}
-use Rattle.sc_base.specs.declared.stop.Stop.TheVariants.{BranchesFull, ReadFault, OutOfMemory}
 use Rattle.sc_base.specs.declared.token.Token as base
-use Rattle.sc_base.specs.Seen.{IsHeld, seen, text_at}
-use Rattle.c11_macros.proofs.OneLineLists.{PlainToken}
-use Rattle.sc_guarded.proofs.ItemLemmas.{map-one}
-use Rattle.sc_guarded.specs.Items.{faults_at, items_at, seen_fault}
-use Rattle.sc_include.specs.declared.header.Header.{Header}
-use Rattle.sc_include.specs.Seen.{seen_header}
-use Rattle.sc_lines.specs.Nests.{seen_line}
-use Rattle.sc_model.proofs.SetLemmas.{IsConfig-Keeps, IsConfig-kept, Keeps-trans}
-use Rattle.sc_model.specs.Bytes.{has_no_newline}
-use Rattle.sc_model.specs.declared.cause.Cause.{Cause}
-use Rattle.sc_model.specs.declared.cause.Cause.TheVariants.{BadInclude, IncludeDepth, NotFound}
-use Rattle.sc_model.specs.Fault.{Fault, fault_at, first_place}
-use Rattle.sc_model.specs.Growth.{Extends}
-use Rattle.sc_model.specs.Sets.{Sets, IsCond, IsConfig, IsNever, Keeps}
-use Rattle.sc_model.specs.Space.{Space}
 use Rattle.sc_model.specs.Token.{Token}
-use Rattle.sc_model.specs.declared.standard.Standard.{Standard}
 use Rattle.sc_prep.proofs.CloseMoves.{items_at-All}
 use Rattle.sc_prep.proofs.Contents.{IsPlaced-later, place-later, tokens-later}
+use Rattle.sc_prep.proofs.Facts.{All-from_recursion, All-head, All-tail, All-weaker, Extends-refl, Extends-trans, Extends-within, IsConfig-Keeps, IsConfig-kept, IsTable-Extends, IsTable-Keeps, Keeps-trans, PlainToken, and_parts, macros_at-Extends, map-one, ne_eqb, not-true, not_from_false, or_from, recursion_from_All, true≢false}
 use Rattle.sc_prep.proofs.FoundFiles.{finds-nothing}
 use Rattle.sc_prep.proofs.LineSteps.{line-grown}
 use Rattle.sc_prep.proofs.ListsAt.{items-keeps}
@@ -43,31 +15,14 @@ use Rattle.sc_prep.proofs.Machine.{inert_refusing}
 use Rattle.sc_prep.proofs.OnceLemmas.{held-more, once-later}
 use Rattle.sc_prep.proofs.PlainRuns.{path-plain}
 use Rattle.sc_prep.proofs.PlainWalks.{says-plain}
+use Rattle.sc_prep.proofs.SettledText.{text-as}
+use Rattle.sc_prep.proofs.Terms.{Agrees, AllByRecursion as Every, AreFound, ArePlaced, ArePlainPaths, BadInclude, BranchesFull, Carries, Cause, Cond, Contents, Context, Entry, Extends, Fault, FileId, Finds, FindsAll, Found, Header, IncludeDepth, IsCond, IsConfig, IsHeld, IsHeldWalk, IsIn, IsNever, IsPlaced, IsPlainState, IsPlainToken, IsSearched, IsSound, IsTable, Keeps, Leads, Line, Machine, Named, NamesAll, NamesAt, NotFound, OutOfMemory, Part, PlainEach, ReadFault, ReadsNothing, RefusedAt, Says, SaysAt, Sets, Simulates, SimulatesOneOf, SimulatesStep, Space, Standard, State, Stop, Stops, Walk, acts, any_token, arriving, fails, fault_at, faults_at, files_at, first_place, has_no_newline, hash_of, headers_in, idle, included, is_directory, is_plain, is_unnamed, items_at, line_of, list_all, missing, named_in, names, no_header, not_expanded, option_map, place_in, refusal, refusing, refusing_if, search, seen, seen_fault, seen_header, seen_line, text_at, too_deep, unnamed_in, unwrap_or, with_named}
 use Rattle.sc_prep.proofs.WalkMoves.{simulates-kept}
 use Rattle.sc_prep.specs.Alternatives.{EachToken, tokens_in}
-use Rattle.sc_prep.specs.Contents.{Agrees}
-use Rattle.sc_prep.specs.declared.alternatives.Alternative.{Alternative}
-use Rattle.sc_prep.specs.declared.content.Contents.{Contents}
-use Rattle.sc_prep.specs.declared.entry.Entry.{Entry}
-use Rattle.sc_prep.specs.declared.finding.Found.{Found}
-use Rattle.sc_prep.specs.declared.including.Part.{Part}
-use Rattle.sc_prep.specs.declared.naming.Named.{Named}
-use Rattle.sc_prep.specs.declared.walk.Walk.{Walk}
 use Rattle.sc_prep.specs.Finding as finding
-use Rattle.sc_prep.specs.Finding.{AreFound, FindsAll, IsSearched}
 use Rattle.sc_prep.specs.Includes as includes
-use Rattle.sc_prep.specs.Includes.{Finds, files_at}
 use Rattle.sc_prep.specs.Machine as machine
-use Rattle.sc_prep.specs.Machine.{Machine, SaysAt, acts, arriving, refusal, refusing, refusing_if}
-use Rattle.sc_prep.specs.Naming.{NamesAll, NamesAt, fails, headers_in, idle, is_unnamed, named_in, names, unnamed_in, with_named}
-use Rattle.sc_prep.specs.Preprocesses.{ReadsNothing, Stops}
-use Rattle.sc_prep.specs.Printable.{ArePlainPaths, ArePlaced, IsHeldWalk, IsPlaced, IsPlainState, IsPlainToken, any_token, is_plain}
-use Rattle.sc_prep.specs.Simulates.{IsIn, Leads, PlainEach, Simulates, SimulatesOneOf, SimulatesStep}
-use Rattle.sc_space.specs.Settings.{is_directory}
-use Rattle.sc_space.specs.Sound.{IsSound}
-use Rattle.sc_table.proofs.Growth.{IsTable-Extends, IsTable-Keeps, macros_at-Extends}
-use Rattle.sc_table.specs.Table.{IsTable}
-use Rattle.sc_prep.proofs.SettledText.{text-as}
+use Rattle.sc_prep.specs.declared.alternatives.Alternative.{Alternative}
 
 -- ---- refusals
 

@@ -1,35 +1,16 @@
 -- The number of a line, seen at each configuration (C11 6.10.4).
-use Rattle.std.proofs.Common.{◌≡◌, ℕ, ◌+◌, ◌<◌, ◌&&◌, ◌||◌, not, Bool, true, false, List, [], ◌∷◌, map, take, length, get_or, Some, Ok, Err, refl, sym, ap, subst, ◌∙◌, if◌then◌else◌}
-use Rattle.std.proofs.lemmas.Bool.{true≢false}
-use Rattle.std.proofs.lemmas.List.Folds.{list_any-append}
-use Rattle.std.specs.List.{list_any}
-use Rattle.std.specs.Option.{option_map}
-use Rattle.std.specs.Prelude.{is_none, unwrap_or}
-use Rattle.c11_directives.specs.Behind.{is_numbering}
+use Rattle.std.proofs.Common.{◌≡◌, ℕ, ◌+◌, ◌<◌, ◌&&◌, ◌||◌, not, Bool, true, false, List, [], ◌∷◌, map, take, length, get_or, Some, Ok, Err, refl, sym, ap, subst, ◌∙◌, if◌then◌else◌, is_none}
 use Rattle.c11_directives.specs.declared.directive.Directive.TheVariants as directive
-use Rattle.c11_directives.specs.Lines.{Line, hash_of}
-use Rattle.c11_directives.specs.Pre.{Context, RefusedAt, not_expanded, not_numbered, numbered, place_in}
-use Rattle.sc_base.specs.declared.id.Cond.{Cond}
-use Rattle.sc_base.specs.declared.token.Token.{Token}
-use Rattle.sc_base.specs.Seen.{seen}
-use Rattle.sc_guarded.specs.Items.{items_at}
-use Rattle.sc_lines.specs.Nests.{seen_line}
-use Rattle.sc_model.proofs.SetLemmas.{IsConfig-Keeps, IsConfig-kept, Keeps-trans}
-use Rattle.sc_model.specs.declared.cause.Cause.TheVariants.{BadDirective}
-use Rattle.sc_model.specs.Fault.{Fault, first_place}
-use Rattle.sc_model.specs.Sets.{Sets, Denotes, IsConfig, Keeps}
 use Rattle.sc_model.specs.Token as model
-use Rattle.sc_model.specs.declared.standard.Standard.{Standard}
-use Rattle.sc_prep.specs.Alternatives.{alternative_tokens, tokens_in}
-use Rattle.sc_prep.specs.declared.alternatives.Alternative.{Alternative}
-use Rattle.sc_prep.specs.declared.walk.Walk.{Walk}
-use Rattle.sc_prep.specs.Machine.{Carried, Machine, SaysAt, acts, arriving, inert, refusal, refused, refusing_if, said}
-use Rattle.sc_prep.specs.Simulates.{SimulatesOneOf, SimulatesStep}
+use Rattle.sc_prep.proofs.Facts.{IsConfig-Keeps, IsConfig-kept, IsTable-Keeps, Keeps-trans, list_any-append, true≢false}
 use Rattle.sc_prep.proofs.ListsAt.{items-next}
 use Rattle.sc_prep.proofs.Machine.{inert_refusing}
 use Rattle.sc_prep.proofs.RunLemmas.{denotes-as}
+use Rattle.sc_prep.proofs.Terms.{BadDirective, Cond, Context, Denotes, Fault, IsConfig, Keeps, Line, RefusedAt, Sets, SimulatesOneOf, SimulatesStep, Standard, Token, Walk, first_place, hash_of, is_numbering, items_at, list_any, not_expanded, not_numbered, numbered, option_map, place_in, seen, seen_line, unwrap_or}
 use Rattle.sc_prep.proofs.WalkMoves.{simulates-kept}
-use Rattle.sc_table.proofs.Growth.{IsTable-Keeps}
+use Rattle.sc_prep.specs.Alternatives.{alternative_tokens, tokens_in}
+use Rattle.sc_prep.specs.Machine.{Carried, Machine, SaysAt, acts, arriving, inert, refusal, refused, refusing_if, said}
+use Rattle.sc_prep.specs.declared.alternatives.Alternative.{Alternative}
 
 or-none : (a : Bool) → (a || false) ≡ a
 or-none true = refl

@@ -1,29 +1,9 @@
 -- The files that are entered no more, as a walk goes on.
-use Rattle.std.proofs.Common.{◌≡◌, ℕ, zero, suc, ◌+◌, ◌<◌, ◌&&◌, ◌||◌, not, Bool, true, false, List, [], ◌∷◌, ◌++◌, inl, inr, length, get_or, take, Option, Some, refl, sym, ap, ◌∙◌, subst, arith, if◌then◌else◌}
-use Rattle.std.proofs.Math.Bool.{or-false, or_comm, or_self_left}
-use Rattle.std.proofs.lemmas.Bool.{cases_Bool, eqb-true}
-use Rattle.std.proofs.lemmas.List.{get_or_default}
-use Rattle.std.proofs.lemmas.Option.{slice_get-get_or}
-use Rattle.std.proofs.lemmas.List.Elements.{All-head, All-set, All-tail, All-weaker}
-use Rattle.std.proofs.lemmas.List.Folds.{list_any-append}
-use Rattle.std.proofs.lemmas.List.Quantifiers.{position-Some}
-use Rattle.std.specs.List.{list_any, position}
-use Rattle.std.specs.Prelude.{◌==◌, slice_set, unwrap_or}
-use Rattle.c11_directives.specs.Lines.{Line, hash_of}
-use Rattle.c11_directives.specs.Pre.{State, is_once, is_once_file, state_behind, with_file_of}
+use Rattle.std.proofs.Common.{◌≡◌, ℕ, zero, suc, ◌+◌, ◌<◌, ◌&&◌, ◌||◌, not, Bool, true, false, List, [], ◌∷◌, ◌++◌, inl, inr, length, get_or, take, Option, Some, refl, sym, ap, ◌∙◌, subst, arith, if◌then◌else◌, ◌==◌, slice_set}
 use Rattle.c11_directives.specs.declared.directive.Directive.TheVariants as directive
-use Rattle.sc_base.proofs.Growth.{Extends-within}
-use Rattle.sc_base.specs.declared.id.Cond.{Cond}
-use Rattle.sc_base.specs.declared.id.FileId.{FileId}
-use Rattle.sc_base.specs.Seen.{text_at}
-use Rattle.sc_model.proofs.ByteLemmas.{same_bytes-refl, same_bytes-true}
-use Rattle.sc_model.specs.Bytes.{same_bytes}
-use Rattle.sc_model.specs.Growth.{Extends, IsOneToOne}
-use Rattle.sc_model.proofs.SetLemmas.{Denotes-self, IsConfig-Keeps, IsConfig-kept}
-use Rattle.sc_model.specs.Sets.{Sets, Denotes, IsConfig, IsCond, Keeps}
+use Rattle.sc_prep.proofs.Facts.{All-head, All-set, All-tail, All-weaker, Denotes-self, Extends-within, IsConfig-Keeps, IsConfig-kept, cases_Bool, eqb-true, get_or_default, list_any-append, or-false, or_comm, or_self_left, position-Some, same_bytes-refl, same_bytes-true, slice_get-get_or}
 use Rattle.sc_prep.proofs.RunLemmas.{denotes-as}
-use Rattle.sc_prep.specs.declared.once.OnceFile.{OnceFile}
-use Rattle.sc_prep.specs.Once.{AreOnceHeld, MarksFile, OwnsOnce, is_marked, once_at}
+use Rattle.sc_prep.proofs.Terms.{AreOnceHeld, Cond, Denotes, Extends, FileId, IsCond, IsConfig, IsOneToOne, Keeps, Line, MarksFile, OnceFile, OwnsOnce, Sets, State, hash_of, is_marked, is_once, is_once_file, list_any, once_at, position, same_bytes, state_behind, text_at, unwrap_or, with_file_of}
 
 abbrev pub Owned : Sets → OnceFile → Type 0
 Owned s o = IsCond s o.cond.0

@@ -1,26 +1,11 @@
 -- What `#pragma once` and other pragmas do to a walk.
 use Rattle.std.proofs.Common.{◌≡◌, ℕ, ◌<◌, ◌&&◌, ◌||◌, Bool, true, false, List, ◌∷◌, length, drop, get_or, Vec, Global, Some, map, refl, sym, ap, ◌∙◌, subst, if◌then◌else◌}
-use Rattle.std.proofs.Math.Seq.{drop-cons}
 use Rattle.c11_directives.specs.declared.directive.Directive.TheVariants as directive
-use Rattle.c11_directives.specs.Lines.{Line}
-use Rattle.c11_directives.specs.Pre.{State, is_once, state_behind}
-use Rattle.sc_base.specs.Seen.{seen, text_at}
-use Rattle.sc_base.specs.declared.token.Token.{Token}
-use Rattle.sc_guarded.specs.Items.{items_at}
-use Rattle.sc_lines.specs.Nests.{seen_line}
-use Rattle.sc_model.specs.Bytes.{same_bytes}
-use Rattle.sc_model.specs.Sets.{Sets, Keeps}
 use Rattle.sc_model.specs.Token as model
-use Rattle.sc_model.specs.declared.standard.Standard.{Standard}
+use Rattle.sc_prep.proofs.Facts.{IsTable-Keeps, drop-cons}
 use Rattle.sc_prep.proofs.OnceLemmas.{behind-once, behind-other}
+use Rattle.sc_prep.proofs.Terms.{HasText, Keeps, Line, MarksFile, OnceFile, Owns, Sets, Simulates, SimulatesStep, Standard, State, Token, Walk, acts, is_once, items_at, once_at, plain_by, same_bytes, seen, seen_line, state_behind, text_at}
 use Rattle.sc_prep.proofs.WalkMoves.{owns-kept, simulates-kept}
-use Rattle.sc_prep.specs.Gathered.{HasText}
-use Rattle.sc_prep.specs.Machine.{acts, plain_by}
-use Rattle.sc_prep.specs.Once.{MarksFile, once_at}
-use Rattle.sc_prep.specs.Simulates.{Owns, Simulates, SimulatesStep}
-use Rattle.sc_prep.specs.declared.once.OnceFile.{OnceFile}
-use Rattle.sc_prep.specs.declared.walk.Walk.{Walk}
-use Rattle.sc_table.proofs.Growth.{IsTable-Keeps}
 
 -- what a pragma leaves as it is
 behind-macros : (b : Bool) (l : Line) (s : State) (name : List ℕ) → (if b then state_behind s l directive.Pragma s.macros else s).macros name ≡ s.macros name

@@ -1,19 +1,12 @@
 -- A name that waits and hides nothing is one of the list itself: nothing of its run was put out.
-use Rattle.std.proofs.Common.{◌≡◌, ℕ, ◌||◌, Bool, true, false, true≢false, List, [], ◌∷◌, ◌++◌, map, append-nil, append_assoc, Result, Ok, refl, sym, ap, subst, ◌∙◌}
-use Rattle.std.proofs.lemmas.Bool.{or_right}
-use Rattle.std.proofs.lemmas.List.{append_cancel_right}
-use Rattle.std.specs.List.{AllByRecursion as Every}
+use Rattle.std.proofs.Common.{◌≡◌, ℕ, true, true≢false, List, [], ◌∷◌, ◌++◌, map, append-nil, append_assoc, Result, Ok, refl, sym, ap, subst, ◌∙◌}
 use Rattle.c11_macros.proofs.CallEnds.{called-ends, case-in}
 use Rattle.c11_macros.proofs.Rows.{AllCover, Covered, call-covers, object-covers}
-use Rattle.c11_macros.specs.Expansion.{call_result, called, case_of, object_result}
-use Rattle.c11_macros.specs.Hidden.{Failure, Hidden, HideSet, Provenance, meet, no_names, with_name}
-use Rattle.c11_macros.specs.Macros.{Definition, Macros}
-use Rattle.c11_macros.specs.Runs.{End, Leaves, Passes, Runs, Settles, Uses, alone, beyond, call, goes_on, object, open_call, open_end, stay, waits, whole, within}
-use Rattle.c11_macros.specs.Text.{unhidden}
+use Rattle.c11_macros.specs.Runs.{Leaves, Passes, Runs, Settles, Uses, alone, beyond, call, object, open_call, open_end, stay, waits, whole, within}
 use Rattle.sc_expand.proofs.Substituting.{every-append}
-use Rattle.sc_model.proofs.ByteLemmas.{same_bytes-refl}
-use Rattle.sc_model.specs.Bytes.{same_bytes}
 use Rattle.sc_model.specs.Token.{Place, Token}
+use Rattle.sc_prep.proofs.Facts.{append_cancel_right, or_right, same_bytes-refl}
+use Rattle.sc_prep.proofs.Terms.{AllByRecursion as Every, Definition, Failure, Hidden, HideSet, Macros, Provenance, call_result, called, case_of, meet, no_names, object_result, same_bytes, unhidden, with_name}
 
 pub every-behind : {A : Type 0} (C : A → Type 0) (xs ys : List A) → Every C (xs ++ ys) → Every C ys
 every-behind C [] ys h = h

@@ -1,28 +1,14 @@
 -- What waits before an item of an expression is a footprint of each configuration that has it.
 use Rattle.std.proofs.Common.{◌≡◌, ℕ, suc, ◌+◌, ◌≤◌, Bool, true, List, ◌∷◌, ◌++◌, drop, map, slice_get, take, Ok, Some, drop-cons, refl, sym, ap, subst, ◌∙◌, if◌then◌else◌}
-use Rattle.std.proofs.lemmas.List.{map-append, take-append-drop}
-use Rattle.std.proofs.lemmas.Option.{get_or_from_slice_get, slice_get_within}
-use Rattle.std.proofs.lemmas.Simd.{map-map}
 use Rattle.c11_directives.specs.Footprints as plain
-use Rattle.c11_directives.specs.Footprints.{HasFootprints, PartHas, Spot, Used, before_token, waiting}
 use Rattle.c11_expressions.proofs.PartLemmas.{one_part}
 use Rattle.c11_expressions.specs.Parts.{IsPart, Part}
-use Rattle.c11_macros.specs.Macros.{Macros}
-use Rattle.c11_macros.specs.Text.{TextExpands}
-use Rattle.sc_base.specs.declared.id.Cond.{Cond}
-use Rattle.sc_base.specs.declared.stop.Stop.{Stop}
-use Rattle.sc_base.specs.declared.stop.Stop.TheVariants.{BranchesFull, ReadFault, OutOfMemory}
 use Rattle.sc_base.specs.declared.token.Token as base
-use Rattle.sc_base.specs.Seen.{seen}
-use Rattle.sc_expand.specs.Stops.{StopsBy}
-use Rattle.sc_guarded.proofs.ItemLemmas.{items_at-append}
-use Rattle.sc_guarded.specs.Items.{items_at}
-use Rattle.sc_if.specs.Parts.{HasPart, HasParts, RefusesAt}
 use Rattle.sc_if.specs.Symbols.{symbol_at}
-use Rattle.sc_model.specs.Sets.{Sets, IsConfig}
 use Rattle.sc_model.specs.Token.{Token}
-use Rattle.sc_model.specs.declared.standard.Standard.{Standard}
+use Rattle.sc_prep.proofs.Facts.{get_or_from_slice_get, items_at-append, map-append, map-map, slice_get_within, take-append-drop}
 use Rattle.sc_prep.proofs.NameFootprints.{made-all, made-length, made-pairs, made_of}
+use Rattle.sc_prep.proofs.Terms.{BranchesFull, Cond, HasFootprints, HasPart, HasParts, IsConfig, Macros, OutOfMemory, PartHas, ReadFault, RefusesAt, Sets, Spot, Standard, Stop, StopsBy, TextExpands, Used, before_token, items_at, seen, waiting}
 
 -- at the configuration this waits before the item
 module _ {standard : Standard} (s : Sets) (names files : List (List ℕ)) (list : List (Cond × base.Token)) (index : ℕ) (item : Cond × base.Token) (is : slice_get list index ≡ Some item) (p : List ℕ × Part)

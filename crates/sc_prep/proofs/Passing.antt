@@ -1,23 +1,11 @@
 -- Lines that are passed over where a machine doesn't act leave it as it is.
-use Rattle.std.proofs.Common.{◌≡◌, ℕ, ◌+◌, ◌-◌, take, ◌<◌, ◌≤◌, ◌&&◌, not, Bool, true, false, List, ◌∷◌, length, Option, Some, None, get_or, refl, sym, ap, subst, inl, inr, arith}
-use Rattle.std.proofs.Math.Seq.{take-add}
-use Rattle.std.proofs.lemmas.Bool.{cases_lt}
-use Rattle.std.proofs.lemmas.List.{take_more, get_or_past}
-use Rattle.std.proofs.lemmas.Option.{slice_get-get_or}
-use Rattle.std.specs.Option.{option_map}
-use Rattle.std.specs.Prelude.{is_none, slice_range, unwrap_or, MatchBool}
-use Rattle.c11_directives.specs.declared.directive.Conditional.{Conditional}
-use Rattle.c11_directives.specs.declared.directive.Conditional.TheVariants.{Opening, Alternative, Else, Endif}
-use Rattle.c11_directives.specs.Lines.{Line, conditional_in, conditional_of, Opens, Group, IsTree}
+use Rattle.std.proofs.Common.{◌≡◌, ℕ, ◌+◌, ◌-◌, take, ◌<◌, ◌≤◌, ◌&&◌, not, Bool, true, false, List, ◌∷◌, length, Option, Some, None, get_or, refl, sym, ap, subst, inl, inr, arith, is_none, slice_range, MatchBool}
+use Rattle.sc_lines.proofs.Judging.{same_at, same_length}
 use Rattle.sc_lines.specs.declared.line.Branch.{Branch}
 use Rattle.sc_lines.specs.declared.line.Line as declared
-use Rattle.sc_lines.specs.Branches.{begins_branch, ends_branch, IsNextBranch, ClosesAt, last_branch, more_branches, IsBranchOf, HasBranch}
-use Rattle.sc_lines.specs.Judges.{no_line, line_at}
-use Rattle.sc_lines.proofs.Judging.{same_at, same_length}
-use Rattle.c11_directives.specs.Pre.{Context}
-use Rattle.sc_prep.specs.Machine.{Machine, acts, turned, opened, next_branch, ended, Takes, Runs}
-use Rattle.sc_prep.specs.Passes.{StandFor, EndsAt, PassesOver, nothing, whole_group, plain_line, whole_section}
+use Rattle.sc_prep.proofs.Facts.{cases_lt, get_or_past, slice_get-get_or, take-add, take_more}
 use Rattle.sc_prep.proofs.Machine.{runs-join, runs-once, unasked_taken, alternative_unasked, inert_run, inert_taken, inert_line_taken, inert_opens, and_false}
+use Rattle.sc_prep.proofs.Terms.{Alternative, ClosesAt, Conditional, Context, Else, Endif, EndsAt, Group, HasBranch, IsBranchOf, IsNextBranch, IsTree, Line, Machine, Opening, Opens, PassesOver, Runs, StandFor, Takes, acts, begins_branch, conditional_in, conditional_of, ended, ends_branch, last_branch, line_at, more_branches, next_branch, no_line, nothing, opened, option_map, plain_line, turned, unwrap_or, whole_group, whole_section}
 
 -- ---- the machine
 

@@ -1,23 +1,10 @@
 -- Where macros, text and names of files are spelled on one line, so is what the text expands to.
 use Rattle.std.proofs.Common.{◌≡◌, ℕ, true, List, [], ◌∷◌, All, map, Ok, refl, sym, ap, ◌∙◌}
-use Rattle.std.proofs.lemmas.Bool.{and_parts, ne_eqb, not-true, not_from_false, or_from}
-use Rattle.std.proofs.lemmas.List.Elements.{All-from_recursion, All-map, All-weaker}
-use Rattle.std.specs.List.{AllByRecursion as Every, list_all}
-use Rattle.c11_macros.specs.Macros.{Macros, initial_macros}
-use Rattle.c11_macros.specs.Hidden.{Hidden}
-use Rattle.c11_macros.specs.Runs.{Settles}
-use Rattle.c11_macros.specs.Text.{TextExpands, place_alone, token_of, unhidden}
-use Rattle.c11_macros.proofs.OneLineLists.{PlainToken}
 use Rattle.sc_expand.proofs.PlainLines.{settles-on_one_line}
-use Rattle.sc_expand.proofs.TextLines.{PlainOption, PlainVariable, initial-one_line, text-stays_on_one_line}
-use Rattle.sc_expand.specs.OneLine.{AreOneLine, IsOneLine}
-use Rattle.sc_model.specs.Bytes.{has_no_newline}
 use Rattle.sc_model.specs.Space as model
-use Rattle.sc_model.specs.Space.{Space, VariableOption}
 use Rattle.sc_model.specs.Token.{Place, Token}
-use Rattle.sc_prep.specs.Printable.{IsPlainToken}
-use Rattle.sc_space.specs.Settings.{is_date_byte}
-use Rattle.sc_space.specs.Sound.{IsInRange, IsSound, IsSoundVariable}
+use Rattle.sc_prep.proofs.Facts.{All-from_recursion, All-map, All-weaker, PlainOption, PlainToken, PlainVariable, and_parts, initial-one_line, ne_eqb, not-true, not_from_false, or_from, text-stays_on_one_line}
+use Rattle.sc_prep.proofs.Terms.{AllByRecursion as Every, AreOneLine, Hidden, IsInRange, IsOneLine, IsPlainToken, IsSound, IsSoundVariable, Macros, Settles, Space, TextExpands, VariableOption, has_no_newline, initial_macros, is_date_byte, list_all, place_alone, token_of, unhidden}
 
 pub spelled-plain : (ts : List Token) → Every IsPlainToken ts → All PlainToken ts
 spelled-plain ts plain = All-weaker IsPlainToken PlainToken (λ t p. p.spelling) ts (All-from_recursion IsPlainToken ts plain)

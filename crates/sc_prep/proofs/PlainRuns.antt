@@ -1,47 +1,14 @@
 -- A machine that runs over lines that are spelled on one line keeps its macros and its text so.
-use Rattle.std.proofs.Common.{◌≡◌, ℕ, ◌<◌, Bool, true, false, List, [], ◌∷◌, ◌++◌, All, length, map, Option, Some, None, Result, Ok, Err, refl, sym, ◌∙◌, subst}
-use Rattle.std.proofs.lemmas.List.Elements.{All-get_or, All-weaker, recursion_from_All}
-use Rattle.std.proofs.lemmas.Option.{slice_get_within, unwrap_or-slice_get}
-use Rattle.std.specs.List.{AllByRecursion as Every}
-use Rattle.std.specs.Prelude.{IfOk, is_none, if◌then◌else◌}
-use Rattle.c11_directives.specs.declared.directive.Conditional.{Conditional}
-use Rattle.c11_directives.specs.declared.directive.Conditional.TheVariants.{Opening, Alternative, Else, Endif}
-use Rattle.c11_directives.specs.declared.directive.Directive.{Directive}
+use Rattle.std.proofs.Common.{◌≡◌, ℕ, ◌<◌, Bool, true, false, List, [], ◌∷◌, All, length, map, Option, Some, None, Result, Ok, Err, refl, sym, ◌∙◌, subst, IfOk, is_none, if◌then◌else◌}
 use Rattle.c11_directives.specs.declared.directive.Directive.TheVariants as directive
-use Rattle.c11_directives.specs.Behind.{behind_name}
-use Rattle.c11_directives.specs.Lines.{Line, conditional_of}
-use Rattle.c11_directives.specs.Pre.{Context, State, with_text, put_out, with_macro, state_behind, operand_of, is_barrier}
-use Rattle.c11_macros.specs.Defines.{Defined, reads}
-use Rattle.c11_macros.specs.Macros.{Definition, Macros, IsOneLineList}
-use Rattle.c11_macros.specs.Same.{same_definition}
-use Rattle.c11_macros.specs.Text.{TextExpands}
-use Rattle.c11_macros.proofs.OneLineLists.{both}
-use Rattle.sc_expand.proofs.TextLines.{update-one_line}
-use Rattle.sc_expand.specs.OneLine.{AreOneLine}
-use Rattle.sc_guarded.specs.Items.{items_at}
-use Rattle.sc_base.specs.Seen.{seen, text_at}
 use Rattle.sc_base.specs.declared.token.Token as base
-use Rattle.sc_lines.specs.Nests.{seen_lines}
-use Rattle.sc_model.specs.declared.cause.Cause.{Cause}
-use Rattle.sc_model.specs.declared.cause.Cause.TheVariants.{Redefined}
-use Rattle.sc_model.specs.Bytes.{has_no_newline}
-use Rattle.sc_model.specs.Fault.{Fault}
-use Rattle.sc_model.specs.Growth.{Extends}
-use Rattle.sc_model.specs.Sets.{Sets, Keeps}
-use Rattle.sc_model.proofs.SetLemmas.{IsConfig-kept}
 use Rattle.sc_model.specs.Token.{Token}
-use Rattle.sc_model.specs.declared.standard.Standard.{Standard}
-use Rattle.sc_prep.specs.declared.walk.Walk.{Walk}
-use Rattle.sc_prep.specs.Machine.{Machine, acts, closing_run, opened_as, next_branch, branched_as, ended, defined_over, defined_as, changed_by, changing, plain_by, is_taken, step_by, arriving, Takes, takes, closes, carries, Runs}
-use Rattle.sc_prep.specs.Footprints.{any_machine}
-use Rattle.sc_prep.specs.Machine as machine
-use Rattle.sc_prep.specs.declared.entry.Entry.{Entry}
-use Rattle.sc_prep.specs.Printable.{ArePlainPaths, IsPlaced, IsPlainOrNewline, IsPlainState, IsPlainToken, ClosesPlain}
-use Rattle.sc_prep.specs.Simulates.{Covers, IsIn, Leads, PlainEach, Simulates}
+use Rattle.sc_prep.proofs.Facts.{All-get_or, All-weaker, IsConfig-kept, both, recursion_from_All, slice_get_within, unwrap_or-slice_get, update-one_line}
 use Rattle.sc_prep.proofs.Plain.{expands-plain}
-use Rattle.sc_prep.proofs.SettledText.{text-every}
 use Rattle.sc_prep.proofs.PlainWalks.{IsPlainAt, PlainChange, every-append, lines-plain, read-plain, undefined-plain, carries-plain}
-use Rattle.sc_table.specs.Table.{macros_at}
+use Rattle.sc_prep.proofs.SettledText.{text-every}
+use Rattle.sc_prep.proofs.Terms.{AllByRecursion as Every, Alternative, AreOneLine, ArePlainPaths, Cause, ClosesPlain, Conditional, Context, Covers, Defined, Definition, Directive, Else, Endif, Entry, Extends, Fault, IsIn, IsOneLineList, IsPlaced, IsPlainOrNewline, IsPlainState, IsPlainToken, Keeps, Leads, Line, Machine, Macros, Opening, PlainEach, Redefined, Runs, Sets, Simulates, Standard, State, Takes, TextExpands, Walk, acts, any_machine, arriving, behind_name, branched_as, carries, changed_by, changing, closes, closing_run, conditional_of, defined_as, defined_over, ended, has_no_newline, is_barrier, items_at, macros_at, next_branch, opened_as, operand_of, plain_by, put_out, reads, same_definition, seen, seen_lines, state_behind, step_by, takes, text_at, with_macro, with_text}
+use Rattle.sc_prep.specs.Machine as machine
 
 -- ---- the macros
 

@@ -1,37 +1,15 @@
 -- Walking lines that are spelled on one line keeps the macros and the text so.
-use Rattle.std.proofs.Common.{◌≡◌, ℕ, zero, suc, ◌==◌, ◌||◌, Bool, true, false, List, [], ◌∷◌, ◌++◌, All, codes, length, map, take, drop, Option, Some, None, Result, Ok, Err, refl, sym, subst}
-use Rattle.std.proofs.lemmas.Bool.{and_parts, not-true, not_from_false, or_from, or_parts}
-use Rattle.std.proofs.lemmas.List.Elements.{recursion_from_All}
-use Rattle.std.specs.List.{AllByRecursion as Every, list_all, list_any}
-use Rattle.std.specs.Option.{IfSome, option_map}
-use Rattle.std.specs.Prelude.{IfOk, ◌-◌, if◌then◌else◌}
-use Rattle.c11_directives.specs.declared.directive.Directive.{Directive}
-use Rattle.c11_directives.specs.Behind.{behind_name, Says, as_it_stands, expanded}
+use Rattle.std.proofs.Common.{◌≡◌, ℕ, zero, suc, ◌==◌, ◌||◌, Bool, true, false, List, [], ◌∷◌, ◌++◌, All, codes, length, map, take, drop, Option, Some, None, Result, Ok, Err, refl, sym, subst, IfOk, ◌-◌, if◌then◌else◌}
 use Rattle.c11_directives.specs.Lines.{Line, line_of, lines_of, split_lines, onto_first, Group, Branches, group_lines, branch_lines, Tree, nested}
-use Rattle.c11_directives.specs.Pre.{Context, State, Closes, closed, refused, Defines, fresh, again, redefined, undefined, without_macro, operand_of, Changes, ignored, unknown, error, defines, defines_nothing, undefines, Steps, text, null, stopped, carried_out, Carries, changed, not_changed, not_expanded, numbered, not_numbered, no_header, too_deep, included, back, Walks, done, line, line_stops, taken, taken_stops, passed, passed_stops, head_stops, WalksBranches, none_taken, last_taken, later_taken, later_passed, later_stops, File, found_or, search, inside, file_lines, Enters, too_large, unended, badly_nested, stopped_inside, walked, Includes, missing, left_out, entered}
-use Rattle.c11_headers.specs.declared.kind.HeaderKind.{HeaderKind}
-use Rattle.c11_headers.specs.declared.kind.HeaderKind.TheVariants.{Quoted, Angle}
 use Rattle.c11_headers.specs.Headers.{Header, header_with, delimited, spaced, up_to_angle, form_by, form_of, is_file_name, with_file_name, header_of, is_slash, directory_of, is_absolute, in_directory, beside, candidates}
-use Rattle.c11_macros.specs.Defines.{Defined, is_protected, reads}
-use Rattle.c11_macros.specs.Macros.{Macros, IsOneLineList}
-use Rattle.c11_macros.specs.Results.{result_map}
-use Rattle.c11_macros.specs.Text.{TextExpands}
-use Rattle.c11_tokens.proofs.PlainLaws.{lexed-plain}
-use Rattle.c11_tokens.specs.Lex.{is_newline, Lexed}
-use Rattle.c11_macros.proofs.OneLineLists.{PlainToken, both, every-map, reads-one_line}
-use Rattle.sc_expand.proofs.TextLines.{update-one_line}
-use Rattle.sc_expand.specs.OneLine.{AreOneLine}
-use Rattle.sc_model.specs.declared.cause.Cause.{Cause}
-use Rattle.sc_model.specs.declared.cause.Cause.TheVariants.{BadInclude, ProtectedName}
-use Rattle.sc_model.specs.declared.kind.Kind.{Kind}
-use Rattle.sc_model.specs.declared.kind.Kind.TheVariants as kind
-use Rattle.sc_model.specs.Bytes.{begins_with, has_no_newline, same_bytes}
-use Rattle.sc_model.specs.Fault.{Fault}
-use Rattle.sc_model.specs.Outside.{Files}
+use Rattle.c11_headers.specs.declared.kind.HeaderKind.TheVariants.{Quoted, Angle}
+use Rattle.c11_headers.specs.declared.kind.HeaderKind.{HeaderKind}
 use Rattle.sc_model.specs.Token.{Lexeme, Place, Token, in_file}
-use Rattle.sc_model.specs.declared.standard.Standard.{Standard}
+use Rattle.sc_model.specs.declared.kind.Kind.TheVariants as kind
+use Rattle.sc_model.specs.declared.kind.Kind.{Kind}
+use Rattle.sc_prep.proofs.Facts.{PlainToken, and_parts, both, every-map, lexed-plain, not-true, not_from_false, or_from, or_parts, reads-one_line, recursion_from_All, update-one_line}
 use Rattle.sc_prep.proofs.Plain.{expands-plain, spelled-plain}
-use Rattle.sc_prep.specs.Printable.{IsPlainState, IsPlainToken}
+use Rattle.sc_prep.proofs.Terms.{AllByRecursion as Every, AreOneLine, BadInclude, Carries, Cause, Changes, Closes, Context, Defined, Defines, Directive, Enters, Fault, File, Files, IfSome, Includes, IsOneLineList, IsPlainState, IsPlainToken, Lexed, Macros, ProtectedName, Says, Standard, State, Steps, TextExpands, Walks, WalksBranches, again, as_it_stands, back, badly_nested, begins_with, behind_name, carried_out, changed, closed, defines, defines_nothing, done, entered, error, expanded, file_lines, found_or, fresh, has_no_newline, head_stops, ignored, included, inside, is_newline, is_protected, last_taken, later_passed, later_stops, later_taken, left_out, line, line_stops, list_all, list_any, missing, no_header, none_taken, not_changed, not_expanded, not_numbered, null, numbered, operand_of, option_map, passed, passed_stops, reads, redefined, refused, result_map, same_bytes, search, stopped, stopped_inside, taken, taken_stops, text, too_deep, too_large, undefined, undefines, unended, unknown, walked, without_macro}
 
 -- ---- lists
 

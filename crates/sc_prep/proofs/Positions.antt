@@ -1,11 +1,8 @@
 -- The tokens of a file stand at strictly ascending positions.
-use Rattle.std.proofs.Common.{◌≡◌, ℕ, zero, suc, ◌+◌, ◌<◌, ◌==◌, ◌&&◌, Bool, true, false, List, [], ◌∷◌, drop, Option, Some, None, Ok, Err, Result, inl, inr, refl, ap, sym, subst, ◌∙◌, arith}
-use Rattle.std.proofs.lemmas.List.Elements.{All-cons, All-nil, All-weaker}
-use Rattle.std.proofs.lemmas.List.Kept.{AllPairs-cons}
-use Rattle.std.specs.Prelude.{◌⊎◌, All, AllPairs, IfOk, if◌then◌else◌}
+use Rattle.std.proofs.Common.{◌≡◌, ℕ, zero, suc, ◌+◌, ◌<◌, ◌==◌, ◌&&◌, Bool, true, false, List, [], ◌∷◌, drop, Option, Some, None, Ok, Err, Result, inl, inr, refl, ap, sym, subst, ◌∙◌, arith, ◌⊎◌, All, AllPairs, IfOk, if◌then◌else◌}
 use Rattle.c11_tokens.specs.Lex.{Lexed, Lexes, Marked, bytes_of, is_splice, marked_from, nothing, phase_1, phase_2, piece, replaced, trigraph, unended, white, with_first, with_last_newline, without_order_mark, without_returns, without_splices, without_trigraphs}
-use Rattle.sc_model.specs.Bytes.{begins_with}
-use Rattle.sc_model.specs.Token.{Lexeme, Position}
+use Rattle.sc_prep.proofs.Facts.{All-cons, All-nil, All-weaker, AllPairs-cons}
+use Rattle.sc_prep.proofs.Terms.{Lexeme, Position, begins_with}
 
 -- an earlier line, or an earlier column of one line
 abbrev IsBefore : Position → Position → Type 0

@@ -1,30 +1,14 @@
 -- What a file's bytes hold.
 use Rattle.std.proofs.Common.{◌≡◌, ◌∙◌, ℕ, ◌<◌, List, All, length, map, slice_get, Some, Err, sym, ap, subst}
-use Rattle.c11_directives.specs.Lines.{lines_of, IsTree, Tree}
-use Rattle.c11_directives.specs.Pre.{Enters, file_with, too_large, unended, badly_nested}
-use Rattle.c11_tokens.specs.Lex.{end_position}
-use Rattle.sc_base.specs.declared.id.FileId.{FileId}
 use Rattle.sc_base.specs.declared.place.Place.{Place}
-use Rattle.sc_base.specs.declared.token.Token.{Token}
-use Rattle.sc_base.specs.Seen.{IsHeld, position_of, seen, seen_place}
 use Rattle.sc_lex.proofs.SeenLemmas.{place-seen, tokens-seen}
-use Rattle.sc_lex.specs.Spell.{AreTokensOf, IsUnendedAt}
-use Rattle.sc_lines.specs.Branches.{HasBranches}
 use Rattle.sc_lines.specs.declared.line.FileTree.{FileTree}
 use Rattle.sc_lines.specs.declared.line.Line.{Line}
-use Rattle.sc_lines.specs.Split.{AreLines}
-use Rattle.sc_lines.specs.Nests.{IsFaultAt, IsTreeOf, seen_lines}
-use Rattle.sc_model.specs.declared.cause.Cause.TheVariants.{BadNesting, FileTooLarge, UnterminatedComment}
 use Rattle.sc_model.specs.Fault as model
-use Rattle.sc_model.specs.Fault.{fault_at}
-use Rattle.sc_model.specs.Outside.{largest_file}
-use Rattle.sc_model.specs.Token.{in_file}
-use Rattle.sc_model.specs.declared.standard.Standard.{Standard}
-use Rattle.sc_prep.specs.declared.content.Content.TheVariants as content
-use Rattle.sc_prep.specs.declared.content.FileLines.{FileLines}
-use Rattle.sc_prep.specs.Contents.{AreHeldLines, IsContent, nested, refused}
-use Rattle.sc_prep.specs.Printable.{IsPlaced, IsPlainOrNewline}
 use Rattle.sc_prep.proofs.FileTokens.{file-placed, file-plain}
+use Rattle.sc_prep.proofs.Terms.{AreLines, AreTokensOf, BadNesting, Enters, FileId, FileLines, FileTooLarge, HasBranches, IsFaultAt, IsHeld, IsPlaced, IsPlainOrNewline, IsTree, IsTreeOf, IsUnendedAt, Standard, Token, Tree, UnterminatedComment, badly_nested, end_position, fault_at, file_with, in_file, largest_file, lines_of, position_of, seen, seen_lines, seen_place, too_large, unended}
+use Rattle.sc_prep.specs.Contents.{AreHeldLines, IsContent, nested, refused}
+use Rattle.sc_prep.specs.declared.content.Content.TheVariants as content
 
 module _ (standard : Standard) (names files : List (List ℕ)) (name bytes : List ℕ) where
   pub refused-large : (place : Place) → seen_place files place ≡ model.first_place name → largest_file < length bytes → IsContent standard names files name (Some bytes) (Some (content.Refused FileTooLarge place))

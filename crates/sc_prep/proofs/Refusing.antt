@@ -1,18 +1,8 @@
 -- Why a list isn't parted by its tokens.
 use Rattle.std.proofs.Common.{◌≡◌, ℕ, ◌+◌, Bool, List, All, map, sym, ap, ◌∙◌}
-use Rattle.std.proofs.lemmas.List.Elements.{All-map}
-use Rattle.sc_base.specs.declared.id.Cond.{Cond}
-use Rattle.sc_base.specs.declared.stop.Stop.{Stop}
-use Rattle.sc_base.specs.declared.stop.Stop.TheVariants.{BranchesFull, ReadFault, OutOfMemory}
-use Rattle.sc_base.specs.declared.token.Token.{Token}
-use Rattle.sc_expand.proofs.FootprintLemmas.{pairs-both}
-use Rattle.sc_expand.specs.Stops.{StopsBy}
 use Rattle.sc_hoist.proofs.ItemLemmas.{places_from-Keeps}
-use Rattle.sc_hoist.specs.Branches.{HasLists, Refuses}
-use Rattle.sc_hoist.specs.Places.{places_at}
-use Rattle.sc_model.proofs.SetLemmas.{IsConfig-kept}
-use Rattle.sc_model.specs.Sets.{Sets, Denotes, IsCond, IsConfig, Keeps}
-use Rattle.sc_prep.specs.Footprints.{HaveLists, StopsByLists}
+use Rattle.sc_prep.proofs.Facts.{All-map, IsConfig-kept, pairs-both}
+use Rattle.sc_prep.proofs.Terms.{BranchesFull, Cond, Denotes, HasLists, HaveLists, IsCond, IsConfig, Keeps, OutOfMemory, ReadFault, Refuses, Sets, Stop, StopsBy, StopsByLists, Token, places_at}
 
 -- different lists of places are those of different configurations
 pub stops-by : (s : Sets) (cond : ℕ) (list : List ℕ → List ℕ) (limit : ℕ) (stop : Stop) → Refuses s cond list limit stop → StopsBy s.arities limit stop

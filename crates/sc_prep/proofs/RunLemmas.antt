@@ -1,19 +1,9 @@
 -- The lists of a walk whose runs are closed.
 use Rattle.std.proofs.Common.{◌≡◌, ℕ, ◌&&◌, not, Bool, true, false, List, [], ◌∷◌, ◌++◌, All, append-nil, append_assoc, refl, sym, ap, subst, ◌∙◌, if◌then◌else◌}
-use Rattle.std.proofs.lemmas.List.Elements.{All-nil, All-cons, All-head, All-tail, All-push}
 use Rattle.sc_base.specs.declared.fault.Fault.{Fault}
-use Rattle.sc_base.specs.declared.id.Cond.{Cond}
-use Rattle.sc_base.specs.declared.token.Token.{Token}
-use Rattle.sc_guarded.proofs.ItemLemmas.{faults_at-append, faults_at-Keeps, items_at-append, items_at-Keeps}
-use Rattle.sc_guarded.specs.Items.{faults_at, items_at}
-use Rattle.sc_guarded.specs.declared.expanded.Expanded.{Expanded}
-use Rattle.sc_model.proofs.SetLemmas.{IsConfig-Keeps, IsConfig-kept, Denotes-Keeps}
-use Rattle.sc_model.specs.Sets.{Sets, IsConfig, IsCond, IsNever, Denotes, Keeps}
 use Rattle.sc_prep.proofs.ApartLemmas.{apart-without, tokens-push}
-use Rattle.sc_prep.specs.Apart.{StandApart, tokens_in}
-use Rattle.sc_prep.specs.Closes.{IsPart, IsWithin, PutsOut, RefusesEach, has_none, is_empty}
-use Rattle.sc_prep.specs.Printable.{ArePlaced, IsPlaced}
-use Rattle.sc_prep.specs.declared.walk.Walk.{Walk}
+use Rattle.sc_prep.proofs.Facts.{All-cons, All-head, All-nil, All-push, All-tail, Denotes-Keeps, IsConfig-Keeps, IsConfig-kept, faults_at-Keeps, faults_at-append, items_at-Keeps, items_at-append}
+use Rattle.sc_prep.proofs.Terms.{ArePlaced, Cond, Denotes, Expanded, IsCond, IsConfig, IsNever, IsPart, IsPlaced, IsWithin, Keeps, PutsOut, RefusesEach, Sets, StandApart, Token, Walk, faults_at, has_none, is_empty, items_at, tokens_in}
 
 pub denotes-as : {s : Sets} {a : ℕ} (f g : List ℕ → Bool) → ((c : List ℕ) → IsConfig s.arities c → f c ≡ g c) → Denotes s a f → Denotes s a g
 denotes-as f g same told = record { own = told.own; at = λ c listed. told.at c listed ∙ same c listed }

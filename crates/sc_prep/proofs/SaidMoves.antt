@@ -1,27 +1,9 @@
 -- What a line says behind the name of its directive, seen at each configuration.
-use Rattle.std.proofs.Common.{◌≡◌, ℕ, ◌&&◌, Bool, true, false, All, List, [], drop, map, Some, Ok, Err, refl, sym, ap, subst, ◌∙◌, if◌then◌else◌}
-use Rattle.std.proofs.lemmas.List.{drop-map}
-use Rattle.std.proofs.lemmas.List.Elements.{All-drop, All-map}
-use Rattle.std.specs.Prelude.{is_none}
-use Rattle.c11_directives.specs.Behind.{as_it_stands, begins_with_header, behind_name, expanded}
-use Rattle.c11_directives.specs.Lines.{Line}
-use Rattle.c11_macros.specs.Text.{TextExpands}
-use Rattle.sc_base.specs.declared.id.Cond.{Cond}
-use Rattle.sc_base.specs.declared.token.Token.{Token}
-use Rattle.sc_base.specs.Seen.{seen}
-use Rattle.sc_guarded.proofs.ItemLemmas.{items_at-under, under}
-use Rattle.sc_guarded.specs.Items.{items_at}
-use Rattle.sc_lines.specs.Nests.{seen_line}
-use Rattle.sc_model.specs.Fault.{Fault}
-use Rattle.sc_model.specs.Sets.{Sets, IsCond}
+use Rattle.std.proofs.Common.{◌≡◌, ℕ, ◌&&◌, Bool, true, false, All, List, [], drop, map, Some, Ok, Err, refl, sym, ap, subst, ◌∙◌, if◌then◌else◌, is_none}
 use Rattle.sc_model.specs.Token as model
-use Rattle.sc_model.specs.declared.standard.Standard.{Standard}
-use Rattle.sc_prep.specs.declared.walk.Walk.{Walk}
-use Rattle.sc_prep.specs.Expressions.{ExpandsAt, expanding_done, expanding_fails, expanding_idle, failed}
+use Rattle.sc_prep.proofs.Facts.{All-drop, All-map, drop-map, items_at-under, under}
+use Rattle.sc_prep.proofs.Terms.{ArePlaced, Cond, ExpandsAt, Fault, IsCond, IsPlaced, IsTable, Line, Owns, Sets, SimulatesOneOf, Standard, TextExpands, Token, Walk, as_it_stands, begins_with_header, behind_name, expanded, expanding_done, expanding_fails, expanding_idle, failed, items_at, seen, seen_line}
 use Rattle.sc_prep.specs.Machine.{Machine, SaysAt, acts, arriving, inert, refused, said}
-use Rattle.sc_prep.specs.Printable.{ArePlaced, IsPlaced}
-use Rattle.sc_prep.specs.Simulates.{Owns, SimulatesOneOf}
-use Rattle.sc_table.specs.Table.{IsTable}
 
 -- ---- at one configuration
 

@@ -1,45 +1,18 @@
 -- What settling the runs does at each configuration.
-use Rattle.std.proofs.Common.{◌≡◌, ℕ, Bool, true, false, List, [], ◌++◌, All, map, length, None, append-nil, refl, sym, ap, subst, ◌∙◌}
-use Rattle.std.proofs.lemmas.List.{map-append}
-use Rattle.std.proofs.lemmas.List.Elements.{All-append, All-nil}
-use Rattle.std.specs.Prelude.{is_none}
-use Rattle.c11_macros.specs.Hidden.{Hidden}
-use Rattle.c11_macros.specs.Runs.{Settles}
-use Rattle.c11_macros.specs.Text.{place_alone, token_of, unhidden}
-use Rattle.sc_base.proofs.Growth.{Extends-refl}
-use Rattle.sc_base.specs.declared.id.Cond.{Cond}
-use Rattle.sc_base.specs.declared.stop.Stop.{Stop}
+use Rattle.std.proofs.Common.{◌≡◌, ℕ, Bool, true, false, List, [], ◌++◌, All, map, length, None, append-nil, refl, sym, ap, subst, ◌∙◌, is_none}
 use Rattle.sc_base.specs.declared.token.Token as base_token
-use Rattle.sc_base.specs.Seen.{IsHeld, seen}
-use Rattle.sc_expand.specs.Stops.{StopsBy}
-use Rattle.sc_guarded.proofs.ItemLemmas.{items_at-append}
-use Rattle.sc_guarded.specs.Items.{items_at}
-use Rattle.sc_model.proofs.SetLemmas.{IsConfig-Keeps, IsConfig-kept, Keeps-trans}
-use Rattle.sc_model.specs.Growth.{Extends}
-use Rattle.sc_model.specs.Sets.{Sets, IsConfig, IsCond, Keeps}
 use Rattle.sc_model.specs.Token.{Place, Token}
 use Rattle.sc_prep.proofs.ApartLemmas.{gathers-part, gathers-same, gathers-then}
 use Rattle.sc_prep.proofs.CloseMoves.{items_at-All, plain-by, plain-grown, plain-seen, shown-before, simulates-grown}
+use Rattle.sc_prep.proofs.Facts.{All-append, All-nil, Extends-refl, IsConfig-Keeps, IsConfig-kept, IsTable-Extends, IsTable-Keeps, items_at-append, map-append}
 use Rattle.sc_prep.proofs.LineSteps.{tokens-grown}
 use Rattle.sc_prep.proofs.NamedFiles.{held-later}
 use Rattle.sc_prep.proofs.Plain.{settles-plain}
 use Rattle.sc_prep.proofs.PlainRuns.{unfaulty}
-use Rattle.sc_prep.proofs.Stopping.{stops-as}
 use Rattle.sc_prep.proofs.SettledText.{text-as, text-every, text-settles}
+use Rattle.sc_prep.proofs.Stopping.{stops-as}
+use Rattle.sc_prep.proofs.Terms.{AllPass, Comes, Cond, Early, Extends, HasText, Hidden, IsCond, IsConfig, IsHeld, IsHeldWalk, IsPart, IsPlaced, IsPlainState, IsPlainToken, IsStored, IsTable, Keeps, LineStage, Machine, Owns, PlainEach, PutsFirst, Sets, Settles, SettlesList, Simulates, StandApart, Stop, StopsAtPlace, StopsBy, StopsStage, Walk, any_machine, any_token, is_plain, items_at, macros_at, place_alone, seen, settles, stays, token_of, tokens_in, unhidden}
 use Rattle.sc_prep.proofs.WalkMoves.{owns-kept, simulates-kept}
-use Rattle.sc_prep.specs.declared.settling.Early.{Early}
-use Rattle.sc_prep.specs.declared.walk.Walk.{Walk}
-use Rattle.sc_prep.specs.Apart.{StandApart, tokens_in}
-use Rattle.sc_prep.specs.Closes.{IsPart}
-use Rattle.sc_prep.specs.Footprints.{Comes, StopsAtPlace, any_machine}
-use Rattle.sc_prep.specs.Gathered.{HasText}
-use Rattle.sc_prep.specs.Machine.{Machine}
-use Rattle.sc_prep.specs.Printable.{AllPass, IsHeldWalk, IsPlainState, IsPlainToken, IsPlaced, any_token, is_plain}
-use Rattle.sc_prep.specs.Settles.{PutsFirst, SettlesList, settles, stays}
-use Rattle.sc_prep.specs.Simulates.{Owns, PlainEach, Simulates}
-use Rattle.sc_prep.specs.Stages.{IsStored, LineStage, StopsStage}
-use Rattle.sc_table.proofs.Growth.{IsTable-Extends, IsTable-Keeps}
-use Rattle.sc_table.specs.Table.{IsTable, macros_at}
 
 -- nothing is put out as the stores grow
 pub stays-stage : (files : List (List ℕ)) {names more : List (List ℕ)} {old new : Sets} → Keeps old new → Extends names more → (w : Walk) → IsStored old names (length files) w

@@ -1,31 +1,14 @@
 -- What the text of a walk settles to, told of its tokens.
-use Rattle.std.proofs.Common.{◌≡◌, ℕ, ◌&&◌, Bool, true, false, true≢false, List, [], ◌∷◌, All, map, length, refl, sym, ap, subst, ◌∙◌, if◌then◌else◌}
-use Rattle.std.proofs.lemmas.Bool.{and_parts}
-use Rattle.std.proofs.lemmas.List.Elements.{All-cons, All-head, All-nil, All-tail}
-use Rattle.c11_macros.specs.Macros.{Macros}
-use Rattle.c11_macros.specs.Runs.{Settles}
-use Rattle.c11_macros.specs.Text.{place_alone, unhidden}
-use Rattle.sc_base.specs.declared.id.Cond.{Cond}
-use Rattle.sc_base.specs.declared.id.Name.{Name}
-use Rattle.sc_base.specs.declared.token.Token.{Token}
-use Rattle.sc_base.specs.Seen.{seen, seen_place}
-use Rattle.sc_expand.proofs.Ending.{bared, items-bared}
+use Rattle.std.proofs.Common.{◌≡◌, ℕ, Bool, true, false, true≢false, List, [], ◌∷◌, All, map, length, refl, sym, ap, subst, ◌∙◌, if◌then◌else◌}
 use Rattle.sc_expand.proofs.SettledPlaces.{settles-moved}
 use Rattle.sc_expand.proofs.TextLemmas.{begun, places-kept, seen-out, seen_hidden-begun, unhidden-begun}
 use Rattle.sc_expand.specs.Moved.{moved}
 use Rattle.sc_expand.specs.Running.{IsDone, refused, unasked, settled}
 use Rattle.sc_expand.specs.Seen.{failures_at, provenance_of, seen_at, seen_failure, stores}
 use Rattle.sc_expand.specs.Settling.{IsHeldSettled, IsSettled}
-use Rattle.sc_expand.specs.declared.settling.Settled.{Settled}
-use Rattle.sc_guarded.proofs.ItemLemmas.{items_at-Keeps}
-use Rattle.sc_guarded.specs.Items.{faults_at, items_at}
-use Rattle.sc_model.proofs.SetLemmas.{IsConfig-Keeps}
-use Rattle.sc_model.specs.Sets.{IsCond, IsConfig, Keeps, Sets}
-use Rattle.sc_prep.specs.Closes.{has_none, is_empty}
-use Rattle.sc_prep.specs.Settles.{AreBare, HidesNone, IsEarly, PutsFirst, SettlesList, settles, stays}
-use Rattle.sc_prep.specs.declared.settling.Early.{Early}
+use Rattle.sc_prep.proofs.Facts.{All-cons, All-head, All-nil, All-tail, IsConfig-Keeps, and_parts, bared, items-bared, items_at-Keeps}
+use Rattle.sc_prep.proofs.Terms.{Cond, Early, HidesNone, IsCond, IsConfig, IsEarly, Keeps, Macros, Name, PutsFirst, Sets, Settled, Settles, SettlesList, Token, faults_at, has_none, is_empty, items_at, place_alone, seen, seen_hidden, seen_place, settles, stays, unhidden}
 use Rattle.sc_subst.specs.declared.hidden.Hidden.{Hidden}
-use Rattle.sc_subst.specs.Seen.{seen_hidden}
 
 nothing-in : {A : Type 0} (xs : List A) → is_empty xs ≡ true → xs ≡ []
 nothing-in [] is = refl

@@ -1,25 +1,15 @@
 -- The text of a run of which a part was put out before its end.
 use Rattle.std.proofs.Common.{◌≡◌, ℕ, Bool, true, false, List, [], ◌∷◌, ◌++◌, append-nil, append_assoc, drop, map, take, Result, Ok, Err, refl, sym, ap, ◌∙◌, subst, if◌then◌else◌}
-use Rattle.std.proofs.lemmas.List.{drop-map, map-append, take-append-drop}
-use Rattle.std.specs.List.{AllByRecursion as Every}
-use Rattle.c11_directives.specs.Footprints.{NameHas, Spot, Used}
-use Rattle.c11_directives.specs.Lines.{Line}
-use Rattle.c11_directives.specs.Pre.{State, put_out, with_text}
 use Rattle.c11_macros.proofs.RunExpands.{passes-expand}
 use Rattle.c11_macros.proofs.Settling.{passes-more, passes-then}
 use Rattle.c11_macros.specs.Expansion.{IsWithin}
 use Rattle.c11_macros.specs.Footprint as arriving
-use Rattle.c11_macros.specs.Footprint.{Arrives}
-use Rattle.c11_macros.specs.Hidden.{Failure, Hidden}
-use Rattle.c11_macros.specs.Macros.{Macros}
-use Rattle.c11_macros.specs.Runs.{Passes, Settles, after_these, begins, goes_on}
-use Rattle.c11_macros.specs.Text.{TextExpands, place_alone, text_of_answer, token_of, unhidden}
-use Rattle.sc_model.specs.Fault.{Fault}
-use Rattle.sc_model.specs.Token.{Place, Token}
 use Rattle.sc_expand.proofs.PassesLaws.{passes-end}
 use Rattle.sc_expand.proofs.RunFootprints.{passes-arrives}
+use Rattle.sc_model.specs.Token.{Place, Token}
+use Rattle.sc_prep.proofs.Facts.{drop-map, map-append, take-append-drop}
 use Rattle.sc_prep.proofs.OwnNames.{every-behind, settles-passes, unhidden-bare}
-use Rattle.sc_prep.specs.Gathered.{HasText}
+use Rattle.sc_prep.proofs.Terms.{AllByRecursion as Every, Arrives, Failure, Fault, HasText, Hidden, Line, Macros, NameHas, Passes, Settles, Spot, State, TextExpands, Used, after_these, begins, goes_on, place_alone, put_out, text_of_answer, token_of, unhidden, with_text}
 
 -- nothing was put out of it
 pub nothing-settled : (s : State) (gathered list : List Token) → s.run ≡ gathered → list ≡ s.output → HasText s gathered list

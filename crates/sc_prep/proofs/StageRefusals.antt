@@ -1,26 +1,9 @@
 -- A stage of the walk that refuses the configurations of its faults.
-use Rattle.std.proofs.Common.{◌≡◌, ℕ, ◌<◌, ◌&&◌, Bool, true, false, List, [], ◌∷◌, ◌++◌, All, map, length, Option, Some, None, append-nil, refl, sym, ap, subst, ◌∙◌}
-use Rattle.std.proofs.lemmas.List.{map-append}
-use Rattle.std.proofs.lemmas.List.Elements.{All-append}
-use Rattle.std.specs.Option.{option_to_list}
-use Rattle.std.specs.Prelude.{is_none, is_some}
+use Rattle.std.proofs.Common.{◌≡◌, ℕ, ◌<◌, ◌&&◌, Bool, true, false, List, [], ◌∷◌, ◌++◌, All, map, length, Option, Some, None, append-nil, refl, sym, ap, subst, ◌∙◌, is_none, is_some}
 use Rattle.sc_base.specs.declared.fault.Fault as base
-use Rattle.sc_guarded.proofs.ItemLemmas.{faults_at-append, faults_at-Keeps}
-use Rattle.sc_guarded.specs.Items.{faults_at, seen_fault}
-use Rattle.sc_model.proofs.SetLemmas.{IsConfig-Keeps}
-use Rattle.sc_model.specs.Fault.{Fault}
-use Rattle.sc_model.specs.Growth.{Extends}
-use Rattle.sc_model.specs.Sets.{Sets, IsConfig, IsCond, Keeps}
-use Rattle.sc_prep.specs.Closes.{RefusesEach, has_none, is_empty}
-use Rattle.sc_prep.specs.Machine.{Machine, acts}
-use Rattle.sc_prep.specs.Printable.{IsHeldWalk, any_token}
-use Rattle.sc_prep.specs.Simulates.{Owns, Simulates}
-use Rattle.sc_prep.specs.Stages.{Stage}
-use Rattle.sc_prep.specs.declared.walk.Walk.{Walk}
-use Rattle.sc_table.proofs.Growth.{IsTable-Keeps}
-use Rattle.sc_table.specs.declared.table.MacroTable.{MacroTable}
-use Rattle.sc_table.specs.Table.{IsTable, macros_at}
 use Rattle.sc_prep.proofs.CloseMoves.{list-grown, simulates-grown}
+use Rattle.sc_prep.proofs.Facts.{All-append, IsConfig-Keeps, IsTable-Keeps, faults_at-Keeps, faults_at-append, map-append}
+use Rattle.sc_prep.proofs.Terms.{Extends, Fault, IsCond, IsConfig, IsHeldWalk, IsTable, Keeps, Machine, MacroTable, Owns, RefusesEach, Sets, Simulates, Stage, Walk, acts, any_token, faults_at, has_none, is_empty, macros_at, option_to_list, seen_fault}
 use Rattle.sc_prep.proofs.WalkMoves.{owns-kept, same-owns, simulates-kept}
 
 abbrev pub first_fault : {F : Type 0} → Option F → Option F → Option F

@@ -1,17 +1,6 @@
 -- Stages of a line, one after the other.
-use Rattle.std.proofs.Common.{◌≡◌, ℕ, List, Result, Ok, Err, sym, subst, ◌∙◌}
-use Rattle.std.specs.Prelude.{IfErr, OnOk}
-use Rattle.sc_base.specs.declared.stop.Stop.{Stop}
-use Rattle.sc_base.specs.declared.stop.Stop.TheVariants.{OutOfMemory}
-use Rattle.sc_base.specs.declared.token.Token.{Token}
-use Rattle.sc_expand.specs.Stops.{StopsBy}
-use Rattle.sc_model.specs.Sets.{Sets}
-use Rattle.sc_prep.specs.Apart.{StandApart}
-use Rattle.sc_prep.specs.declared.walk.Walk.{Walk}
-use Rattle.sc_prep.specs.Footprints.{StopsWalk, any_machine}
-use Rattle.sc_prep.specs.Machine.{Machine}
-use Rattle.sc_prep.specs.Printable.{IsHeldWalk, any_token}
-use Rattle.sc_prep.specs.Stages.{KeepsText, StopsStage}
+use Rattle.std.proofs.Common.{◌≡◌, ℕ, List, Result, Ok, Err, sym, subst, ◌∙◌, IfErr, OnOk}
+use Rattle.sc_prep.proofs.Terms.{IsHeldWalk, KeepsText, Machine, OutOfMemory, Sets, StandApart, Stop, StopsBy, StopsStage, StopsWalk, Token, Walk, any_machine, any_token}
 
 -- three things that are promised of an answer
 pub ok-three : {A E P Q R S : Type 0} (r : Result A E) → (P → Q → R → S) → OnOk r P → OnOk r Q → OnOk r R → OnOk r S

@@ -1,15 +1,7 @@
 -- Walks that stop because one place has too many footprints.
-use Rattle.std.proofs.Common.{◌≡◌, ℕ, List, [], ◌∷◌, Result, Ok, Err, sym, subst}
-use Rattle.std.proofs.lemmas.Result.{IfErr-weaker}
-use Rattle.std.specs.Prelude.{IfErr}
-use Rattle.c11_directives.specs.Footprints.{HasFootprints, MomentsHave, Origin, SourceFootprint, Spot}
-use Rattle.c11_directives.specs.Reaches.{Moment}
-use Rattle.sc_base.specs.declared.stop.Stop.{Stop}
-use Rattle.sc_base.specs.declared.stop.Stop.TheVariants.{BranchesFull, ReadFault, OutOfMemory}
-use Rattle.sc_model.specs.Sets.{IsConfig}
-use Rattle.sc_model.specs.Token.{Place}
-use Rattle.sc_prep.specs.Footprints.{StopsAmong, StopsAtPlace}
-use Rattle.sc_prep.specs.Preprocesses.{ReadsNothing}
+use Rattle.std.proofs.Common.{◌≡◌, ℕ, List, [], ◌∷◌, Result, Ok, Err, sym, subst, IfErr}
+use Rattle.sc_prep.proofs.Facts.{IfErr-weaker}
+use Rattle.sc_prep.proofs.Terms.{BranchesFull, HasFootprints, IsConfig, Moment, MomentsHave, Origin, OutOfMemory, Place, ReadFault, ReadsNothing, SourceFootprint, Spot, Stop, StopsAmong, StopsAtPlace}
 
 -- where each configuration that has a footprint has it in another sense too, at a place that
 -- follows from the one

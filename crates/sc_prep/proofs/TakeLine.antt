@@ -1,32 +1,10 @@
 -- What a line does at each configuration, once the runs that it ends are closed.
-use Rattle.std.proofs.Common.{◌≡◌, ℕ, Bool, true, false, List, All, Option, Some, None, Result, Ok, refl, sym, ap, ◌∙◌, subst, if◌then◌else◌}
-use Rattle.std.proofs.lemmas.Result.{IfErr-weaker}
-use Rattle.std.specs.Option.{option_map}
-use Rattle.std.specs.Prelude.{IfErr}
-use Rattle.c11_directives.specs.declared.directive.Conditional.{Conditional}
-use Rattle.c11_directives.specs.declared.directive.Directive.{Directive}
+use Rattle.std.proofs.Common.{◌≡◌, ℕ, Bool, true, false, List, All, Option, Some, None, Result, Ok, refl, sym, ap, ◌∙◌, subst, if◌then◌else◌, IfErr}
 use Rattle.c11_directives.specs.declared.directive.Directive.TheVariants as directive
-use Rattle.c11_directives.specs.Lines.{conditional_in}
-use Rattle.c11_directives.specs.Pre.{Context, is_barrier, is_said}
-use Rattle.sc_base.specs.declared.stop.Stop.{Stop}
-use Rattle.sc_base.specs.declared.stop.Stop.TheVariants.{OutOfMemory}
-use Rattle.sc_base.specs.declared.token.Token.{Token}
-use Rattle.sc_base.specs.Seen.{IsHeld}
-use Rattle.sc_expand.specs.Stops.{StopsBy}
-use Rattle.sc_lines.proofs.SeenLines.{directive-files}
-use Rattle.sc_lines.specs.Nests.{seen_line}
-use Rattle.sc_lines.specs.Split.{directive_at}
-use Rattle.sc_model.proofs.SetLemmas.{IsConfig-Keeps}
-use Rattle.sc_model.specs.Growth.{Extends}
-use Rattle.sc_model.specs.Sets.{Sets, Keeps}
-use Rattle.sc_model.specs.declared.standard.Standard.{Standard}
-use Rattle.sc_prep.specs.Machine.{Carried, Decided, Machine, Takes, asks_by, carries, closes, ends_run, plain_by, step, step_by, takes}
-use Rattle.sc_prep.specs.Printable.{AllPass, IsHeldWalk, IsPlaced, StaysHeld, any_token, is_plain}
-use Rattle.sc_prep.specs.Simulates.{Closed, IsBetweenRuns, Simulates, SimulatesOneOf, SimulatesStep, StepsBetweenRuns}
-use Rattle.sc_prep.specs.declared.walk.Walk.{Walk}
 use Rattle.sc_prep.proofs.BetweenRuns.{closing-between}
+use Rattle.sc_prep.proofs.Facts.{IfErr-weaker, IsConfig-Keeps, directive-files}
 use Rattle.sc_prep.proofs.LineSteps.{line-grown, plain-is}
-use Rattle.sc_table.specs.Table.{IsTable}
+use Rattle.sc_prep.proofs.Terms.{AllPass, Carried, Closed, Conditional, Context, Decided, Directive, Extends, IsBetweenRuns, IsHeld, IsHeldWalk, IsPlaced, IsTable, Keeps, Machine, OutOfMemory, Sets, Simulates, SimulatesOneOf, SimulatesStep, Standard, StaysHeld, StepsBetweenRuns, Stop, StopsBy, Takes, Token, Walk, any_token, asks_by, carries, closes, conditional_in, directive_at, ends_run, is_barrier, is_plain, is_said, option_map, plain_by, seen_line, step, step_by, takes}
 
 -- no memory is a reason to stop
 pub memory-stops : {A : Type 0} (arities : List ℕ) (limit : ℕ) (r : Result A Stop) → IfErr r (λ s. s ≡ OutOfMemory) → IfErr r (StopsBy arities limit)

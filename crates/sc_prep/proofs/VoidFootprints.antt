@@ -1,17 +1,9 @@
 -- Footprints of the configurations of a test, where some of them come to no machine: these have any
 -- footprint, so another one is made for each.
-use Rattle.std.proofs.Common.{◌≡◌, ℕ, ◌+◌, ◌<◌, ◌&&◌, not, Bool, true, false, List, [], ◌∷◌, All, length, replicate, Option, None, get_or, refl, sym, ap, ◌∙◌, arith, cond}
-use Rattle.std.proofs.lemmas.Bool.{and_from, true≢false}
-use Rattle.std.proofs.lemmas.List.{length-replicate}
-use Rattle.std.proofs.lemmas.List.Elements.{All-nil, All-cons, All-head, All-tail}
-use Rattle.std.proofs.lemmas.List.Kept.{AllPairs-cons, AllPairs-filter}
-use Rattle.std.specs.List.{filter}
-use Rattle.std.specs.Prelude.{AllPairs}
-use Rattle.c11_directives.specs.Footprints.{HasFootprints, Used, looked_up_in, source}
-use Rattle.c11_macros.specs.Macros.{Definition}
-use Rattle.sc_model.specs.Sets.{IsConfig}
-use Rattle.sc_prep.specs.Footprints.{HaveLists}
+use Rattle.std.proofs.Common.{◌≡◌, ℕ, ◌+◌, ◌<◌, ◌&&◌, not, Bool, true, false, List, [], ◌∷◌, All, length, replicate, Option, None, get_or, refl, sym, ap, ◌∙◌, arith, cond, AllPairs}
 use Rattle.sc_prep.proofs.ApartLemmas.{pairs-head, pairs-tail}
+use Rattle.sc_prep.proofs.Facts.{All-cons, All-head, All-nil, All-tail, AllPairs-cons, AllPairs-filter, and_from, length-replicate, true≢false}
+use Rattle.sc_prep.proofs.Terms.{Definition, HasFootprints, HaveLists, IsConfig, Used, filter, looked_up_in, source}
 
 -- how many definitions these footprints have in all
 abbrev definition_count : List (List ℕ × Used) → ℕ

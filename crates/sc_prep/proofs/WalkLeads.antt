@@ -1,42 +1,16 @@
 -- What a walk over the lines of a file leads to.
-use Rattle.std.proofs.Common.{◌≡◌, ℕ, zero, suc, ◌+◌, ◌<◌, ◌≤◌, take, Bool, true, List, [], ◌∷◌, All, length, get_or, Option, refl, sym, ap, ◌∙◌, subst, arith}
-use Rattle.std.proofs.lemmas.List.Elements.{All-from_recursion, All-weaker}
-use Rattle.std.specs.List.{AllByRecursion as Every}
-use Rattle.std.specs.Prelude.{MatchBool, unwrap_or}
-use Rattle.c11_directives.specs.Lines.{Line}
-use Rattle.c11_directives.specs.Pre.{Context}
-use Rattle.sc_base.proofs.Growth.{Extends-refl}
+use Rattle.std.proofs.Common.{◌≡◌, ℕ, zero, suc, ◌+◌, ◌<◌, ◌≤◌, take, Bool, true, List, [], ◌∷◌, All, length, get_or, Option, refl, sym, ap, ◌∙◌, subst, arith, MatchBool}
 use Rattle.sc_base.specs.declared.token.Token as base
-use Rattle.sc_base.specs.Seen.{IsHeld, text_at}
-use Rattle.sc_lines.proofs.SeenLines.{line-seen}
 use Rattle.sc_lines.specs.declared.line.Line as declared
-use Rattle.sc_lines.specs.Judges.{no_line}
-use Rattle.sc_lines.specs.Nests.{seen_line, seen_lines}
-use Rattle.sc_lines.specs.Split.{directive_at, tokens_of}
-use Rattle.sc_model.proofs.SetLemmas.{IsConfig-Keeps, Keeps-refl, Keeps-trans}
-use Rattle.sc_model.specs.Bytes.{has_no_newline}
-use Rattle.sc_model.specs.Growth.{Extends}
-use Rattle.sc_model.specs.Outside.{Files}
-use Rattle.sc_model.specs.Sets.{Sets, IsNever, Keeps}
-use Rattle.sc_model.specs.Space.{Space}
 use Rattle.sc_prep.proofs.Contents.{IsPlaced-later}
+use Rattle.sc_prep.proofs.Facts.{All-from_recursion, All-weaker, Extends-refl, IsConfig-Keeps, Keeps-refl, Keeps-trans, line-seen}
 use Rattle.sc_prep.proofs.Going.{Gone, directories-plain, gone-then, line-later, plain-line}
 use Rattle.sc_prep.proofs.InFile.{top-is-in}
 use Rattle.sc_prep.proofs.LeadMoves.{contents-stay, leads-one}
 use Rattle.sc_prep.proofs.LineSteps.{directive-now, line-of_file, lines-all, lines-long}
 use Rattle.sc_prep.proofs.Passing.{next-passed, one-more}
 use Rattle.sc_prep.proofs.PlainRuns.{each-any, in-more, placed-plain, runs-plain, seen-plain}
-use Rattle.sc_prep.specs.Contents.{Agrees, AreContents, AreHeldLines, KeepsContents}
-use Rattle.sc_prep.specs.Machine.{Machine, Runs, Takes}
-use Rattle.sc_prep.specs.Passes.{EndsAt}
-use Rattle.sc_prep.specs.Printable.{AllPass, ArePlainPaths, IsPlaced, IsPlainToken, is_plain}
-use Rattle.sc_prep.specs.Footprints.{any_machine}
-use Rattle.sc_prep.specs.Simulates.{Closed, Covers, IsAtTop, IsContext, IsIn, Leads, PlainEach, SimulatesOneOf}
-use Rattle.sc_prep.specs.declared.content.Contents.{Contents}
-use Rattle.sc_prep.specs.declared.content.FileLines.{FileLines}
-use Rattle.sc_prep.specs.declared.entry.Entry.{Entry}
-use Rattle.sc_prep.specs.declared.walk.Walk.{Walk}
-use Rattle.sc_space.specs.Sound.{IsSound}
+use Rattle.sc_prep.proofs.Terms.{Agrees, AllByRecursion as Every, AllPass, AreContents, AreHeldLines, ArePlainPaths, Closed, Contents, Context, Covers, EndsAt, Entry, Extends, FileLines, Files, IsAtTop, IsContext, IsHeld, IsIn, IsNever, IsPlaced, IsPlainToken, IsSound, Keeps, KeepsContents, Leads, Line, Machine, PlainEach, Runs, Sets, SimulatesOneOf, Space, Takes, Walk, any_machine, directive_at, has_no_newline, is_plain, no_line, seen_line, seen_lines, text_at, tokens_of, unwrap_or}
 
 every-take : {A : Type 0} (P : A → Type 0) (n : ℕ) (xs : List A) → Every P xs → Every P (take n xs)
 every-take P zero xs all = tt

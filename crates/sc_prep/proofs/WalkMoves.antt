@@ -1,45 +1,14 @@
 -- What one move of the walk of all configurations does at each of them.
-use Rattle.std.proofs.Common.{◌≡◌, ℕ, ◌&&◌, not, Bool, true, false, List, [], ◌∷◌, ◌++◌, map, reverse, Option, Some, None, Vec, Global, append-nil, refl, sym, ap, ◌∙◌, subst}
-use Rattle.std.proofs.lemmas.Bool.{and_parts}
-use Rattle.std.proofs.lemmas.List.{reverse-append, map-append}
-use Rattle.std.proofs.lemmas.List.Elements.{All-head, All-tail, All-push, All-pop, All-append, All-map, All-weaker}
-use Rattle.std.specs.Option.{option_to_list}
-use Rattle.std.specs.Prelude.{All, is_none, if◌then◌else◌, ◌↔◌, cond, Ok, Err}
-use Rattle.sc_model.specs.declared.cause.Cause.{Cause}
-use Rattle.sc_table.specs.declared.table.MacroTable.{MacroTable}
-use Rattle.sc_table.specs.Change.{IsOther}
-use Rattle.sc_table.specs.Table.{IsTable, IsStill, macros_at}
-use Rattle.sc_table.proofs.Growth.{IsTable-Keeps, macros_at-Keeps}
-use Rattle.sc_base.specs.declared.fault.Fault as base
-use Rattle.sc_base.specs.declared.id.Cond.{Cond}
-use Rattle.sc_prep.specs.declared.walk.Section.{Section}
-use Rattle.sc_prep.specs.declared.walk.Walk.{Walk}
-use Rattle.sc_prep.specs.Machine.{Machine, acts, acting, opened, next_branch, ended, turned, refusing, refusing_if, refusal, acting_unless, changed_by, changing, defined_as, defined_over, ends_run, plain_by, refusal_of}
-use Rattle.sc_prep.specs.Closes.{RefusesEach, has_none}
-use Rattle.sc_prep.specs.Simulates.{section_at, Simulates, OwnsSection, Owns, SimulatesStep, StepsBetweenRuns}
-use Rattle.sc_lines.specs.Nests.{seen_line}
-use Rattle.std.specs.Map.{update}
-use Rattle.sc_model.specs.declared.cause.Cause.TheVariants.{BadDirective, ErrorDirective, Redefined, ProtectedName}
-use Rattle.sc_model.specs.Bytes.{same_bytes}
-use Rattle.c11_directives.specs.declared.directive.Directive.{Directive}
+use Rattle.std.proofs.Common.{◌≡◌, ℕ, ◌&&◌, not, Bool, true, false, List, [], ◌∷◌, ◌++◌, map, reverse, Option, Some, None, Vec, Global, append-nil, refl, sym, ap, ◌∙◌, subst, All, is_none, if◌then◌else◌, ◌↔◌, cond, Ok, Err}
 use Rattle.c11_directives.specs.declared.directive.Directive.TheVariants as directive
-use Rattle.c11_directives.specs.Pre.{State, with_text, undefined, with_macro, without_macro, is_once_file}
-use Rattle.c11_macros.specs.Defines.{Defined, is_protected}
-use Rattle.c11_macros.specs.Same.{same_definition}
-use Rattle.c11_macros.proofs.SameLaws.{same_definition-true, same_definition-false}
-use Rattle.c11_macros.specs.Macros.{Definition, Macros}
-use Rattle.c11_directives.specs.Lines.{Line}
-use Rattle.sc_guarded.proofs.ItemLemmas.{under, map-one, items_at-append, items_at-Keeps, items_at-under, faults_at-append, faults_at-Keeps}
-use Rattle.sc_guarded.specs.Items.{items_at, faults_at, seen_fault}
-use Rattle.sc_base.specs.declared.token.Token.{Token}
-use Rattle.sc_base.specs.Seen.{seen}
-use Rattle.sc_model.proofs.SetLemmas.{Denotes-Keeps, Denotes-self, IsConfig-Keeps, IsConfig-kept}
-use Rattle.sc_model.specs.Sets.{Sets, IsConfig, IsCond, IsNever, Denotes, Keeps}
-use Rattle.sc_model.specs.declared.standard.Standard.{Standard}
+use Rattle.sc_base.specs.declared.fault.Fault as base
+use Rattle.sc_prep.proofs.Facts.{All-append, All-head, All-map, All-pop, All-push, All-tail, All-weaker, Denotes-Keeps, Denotes-self, IsConfig-Keeps, IsConfig-kept, IsTable-Keeps, and_parts, faults_at-Keeps, faults_at-append, items_at-Keeps, items_at-append, items_at-under, macros_at-Keeps, map-append, map-one, reverse-append, same_definition-false, same_definition-true, under}
 use Rattle.sc_prep.proofs.Machine.{inert_acting, inert_changing}
 use Rattle.sc_prep.proofs.OnceLemmas.{once-kept, once-stays}
 use Rattle.sc_prep.proofs.RunLemmas.{denotes-as, is_empty-one}
 use Rattle.sc_prep.proofs.SettledText.{text-as, text-changed, text-more}
+use Rattle.sc_prep.proofs.Terms.{BadDirective, Cause, Cond, Defined, Definition, Denotes, Directive, ErrorDirective, IsCond, IsConfig, IsNever, IsStill, IsTable, Keeps, Line, Machine, MacroTable, Macros, Owns, OwnsSection, ProtectedName, Redefined, RefusesEach, Section, Sets, Simulates, SimulatesStep, Standard, State, StepsBetweenRuns, Token, Walk, acting, acting_unless, acts, changed_by, changing, defined_as, defined_over, ended, ends_run, faults_at, has_none, is_once_file, is_protected, items_at, macros_at, next_branch, opened, option_to_list, plain_by, refusal, refusal_of, refusing, refusing_if, same_bytes, same_definition, section_at, seen, seen_fault, seen_line, turned, undefined, update, with_macro, with_text, without_macro}
+use Rattle.sc_table.specs.Change.{IsOther}
 
 map-reverse : {A B : Type 0} (f : A → B) (xs : List A) → map f (reverse xs) ≡ reverse (map f xs)
 map-reverse f [] = refl

@@ -1,46 +1,19 @@
 -- What stops the walk of a file: footprints that its machines come to, where a later call stops.
-use Rattle.std.proofs.Common.{◌≡◌, ℕ, zero, suc, ◌+◌, ◌<◌, ◌≤◌, Bool, true, false, List, [], ◌∷◌, ◌++◌, drop, get_or, length, map, take, Option, Some, Result, append_assoc, drop-cons, refl, sym, ap, ◌∙◌, subst, arith, if◌then◌else◌}
-use Rattle.std.specs.List.{flat_map}
-use Rattle.std.specs.Prelude.{IfErr}
+use Rattle.std.proofs.Common.{◌≡◌, ℕ, zero, suc, ◌+◌, ◌<◌, ◌≤◌, Bool, true, false, List, [], ◌∷◌, ◌++◌, drop, get_or, length, map, take, Option, Some, Result, append_assoc, drop-cons, refl, sym, ap, ◌∙◌, subst, arith, if◌then◌else◌, IfErr}
 use Rattle.c11_directives.specs.declared.directive.Directive.TheVariants as directive
-use Rattle.c11_directives.specs.Footprints.{MomentsHave, NameHas, SourceFootprint, of_last_run}
-use Rattle.c11_directives.specs.Lines.{Line, hash_of, onto_first}
-use Rattle.c11_directives.specs.Pre.{Context}
-use Rattle.c11_directives.specs.Reaches.{at_end}
-use Rattle.c11_tokens.specs.Lex.{is_newline}
-use Rattle.sc_base.specs.declared.id.FileId.{FileId}
-use Rattle.sc_base.specs.declared.stop.Stop.{Stop}
 use Rattle.sc_base.specs.declared.token.Token as base
-use Rattle.sc_base.specs.Seen.{text_at}
-use Rattle.sc_lines.proofs.SeenLines.{line-seen}
 use Rattle.sc_lines.specs.declared.line.Line as declared
-use Rattle.sc_lines.specs.Nests.{seen_line, seen_lines}
-use Rattle.sc_lines.specs.Split.{token_lines, tokens_of}
-use Rattle.sc_model.specs.Outside.{Files}
-use Rattle.sc_model.specs.Sets.{Sets}
-use Rattle.sc_model.specs.Space.{Space}
 use Rattle.sc_model.specs.Token.{Token}
-use Rattle.sc_model.specs.declared.standard.Standard.{Standard}
 use Rattle.sc_prep.proofs.ApartLemmas.{apart-left, apart-without}
+use Rattle.sc_prep.proofs.Facts.{line-seen}
 use Rattle.sc_prep.proofs.FileStops.{comes-at, comes-included, comes-then}
 use Rattle.sc_prep.proofs.Going.{Gone, Staged, line-later, staged-between}
-use Rattle.sc_prep.proofs.IncludeLeads.{Spelled, files-next}
 use Rattle.sc_prep.proofs.InFile.{top-is-in}
+use Rattle.sc_prep.proofs.IncludeLeads.{Spelled, files-next}
 use Rattle.sc_prep.proofs.LineSteps.{line-of_file, lines-all, lines-long}
 use Rattle.sc_prep.proofs.PlainRuns.{in-more}
 use Rattle.sc_prep.proofs.Stopping.{answer-stops, here_at, included_at, moments-as}
-use Rattle.sc_prep.specs.Apart.{GathersFrom, StandApart, tokens_in}
-use Rattle.sc_prep.specs.Contents.{AreContents, AreHeldLines}
-use Rattle.sc_prep.specs.declared.content.Contents.{Contents}
-use Rattle.sc_prep.specs.declared.content.FileLines.{FileLines}
-use Rattle.sc_prep.specs.declared.entry.Entry.{Entry}
-use Rattle.sc_prep.specs.declared.including.Part.{Part}
-use Rattle.sc_prep.specs.declared.walk.Walk.{Walk}
-use Rattle.sc_prep.specs.Footprints.{Comes, ComesAt, ComesInside, ComesOver, StopsAtPlace, StopsWalk, any_machine, past_all}
-use Rattle.sc_prep.specs.Includes.{files_at}
-use Rattle.sc_prep.specs.Machine.{Runs, acts}
-use Rattle.sc_prep.specs.Printable.{IsPlaced}
-use Rattle.sc_prep.specs.Simulates.{IsAtTop, IsBetweenRuns, IsContext, IsIn}
+use Rattle.sc_prep.proofs.Terms.{AreContents, AreHeldLines, Comes, ComesAt, ComesInside, ComesOver, Contents, Context, Entry, FileId, FileLines, Files, GathersFrom, IsAtTop, IsBetweenRuns, IsContext, IsIn, IsPlaced, Line, MomentsHave, NameHas, Part, Runs, Sets, SourceFootprint, Space, StandApart, Standard, Stop, StopsAtPlace, StopsWalk, Walk, acts, any_machine, at_end, files_at, flat_map, hash_of, is_newline, of_last_run, onto_first, past_all, seen_line, seen_lines, text_at, token_lines, tokens_in, tokens_of}
 
 -- ---- the tokens of a file that are still to come
 

@@ -1,16 +1,8 @@
 use Rattle.std.proofs.Common.{◌≡◌, ◌<◌, All, List, length, map, sym, subst, true}
-use Rattle.std.proofs.lemmas.Result.{err_from_is_err_and}
-use Rattle.sc_base.specs.declared.id.Cond.{Cond}
-use Rattle.sc_base.specs.declared.token.Token.{Token}
-use Rattle.sc_base.specs.Seen.{IsHeld}
-use Rattle.sc_hoist.specs.declared.branch.Branch.{Branch}
-use Rattle.sc_model.specs.Sets.{IsCond}
-use Rattle.sc_prep.specs.Alternatives.{alternative_tokens, branch_tokens}
 use Rattle.sc_prep.proofs.BranchTokens.{alternatives-at, alternatives-each, alternatives-own, alternatives-some, bare-same, branches-below}
+use Rattle.sc_prep.proofs.Facts.{Denotes-self, Keeps-refl, err_from_is_err_and}
 use Rattle.sc_prep.proofs.Refusing.{stops-by, stops-by-lists}
-use Rattle.sc_model.proofs.SetLemmas.{Denotes-self, Keeps-refl}
-use Rattle.sc_hoist.specs.Places.{places_at}
-use Rattle.sc_hoist.specs.Branches.{Refuses}
+use Rattle.sc_prep.proofs.Terms.{Branch, Cond, IsCond, IsHeld, Refuses, Token, alternative_tokens, branch_tokens, places_at}
 use Rattle.sc_prep.proofs.alternatives.alternatives.Goals as goal
 
 pub lines-requires-clause-own : goal.lines-requires-clause-own

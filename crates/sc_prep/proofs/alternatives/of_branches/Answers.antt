@@ -1,7 +1,6 @@
 use Rattle.std.proofs.Common.{◌∙◌, ◌<◌, All, length, sym, ap, refl, subst}
-use Rattle.sc_if.specs.Decided.{tokens_at}
-use Rattle.sc_hoist.specs.declared.branch.Branch.{Branch}
 use Rattle.sc_prep.proofs.BranchTokens.{one-pushed}
+use Rattle.sc_prep.proofs.Terms.{Branch, tokens_at}
 use Rattle.sc_prep.proofs.alternatives.of_branches.Goals as goal
 
 pub tokens_at-requires : goal.tokens_at-requires

@@ -1,5 +1,5 @@
 use Rattle.std.proofs.Common.{◌≡◌, map, take}
-use Rattle.sc_prep.specs.Alternatives.{alternative_tokens, branch_tokens}
+use Rattle.sc_prep.proofs.Terms.{alternative_tokens, branch_tokens}
 use Rattle.sc_prep.proofs.alternatives.of_branches.Given as goal
 
 abbrev pub invariant-loop-branch : goal.invariant-loop-branch

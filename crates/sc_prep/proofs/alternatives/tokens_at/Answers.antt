@@ -1,7 +1,6 @@
 use Rattle.std.proofs.Common.{◌∙◌, ◌++◌, [], ◌∷◌, take, get_or, sym, ap}
-use Rattle.std.proofs.lemmas.List.{take_more}
-use Rattle.sc_if.proofs.AnswerLemmas.{tokens_at-push}
-use Rattle.sc_if.specs.Decided.{tokens_at}
+use Rattle.sc_prep.proofs.Facts.{take_more, tokens_at-push}
+use Rattle.sc_prep.proofs.Terms.{tokens_at}
 use Rattle.sc_prep.proofs.alternatives.tokens_at.Goals as goal
 
 pub loop-place-preserved : goal.loop-place-preserved

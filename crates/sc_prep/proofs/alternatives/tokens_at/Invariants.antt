@@ -1,5 +1,5 @@
 use Rattle.std.proofs.Common.{◌≡◌, take}
-use Rattle.sc_if.specs.Decided.{tokens_at}
+use Rattle.sc_prep.proofs.Terms.{tokens_at}
 use Rattle.sc_prep.proofs.alternatives.tokens_at.Given as goal
 
 abbrev pub invariant-loop-place : goal.invariant-loop-place

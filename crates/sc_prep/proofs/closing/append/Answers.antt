@@ -1,4 +1,4 @@
-use Rattle.sc_expand.proofs.Ending.{more-next}
+use Rattle.sc_prep.proofs.Facts.{more-next}
 use Rattle.sc_prep.proofs.closing.append.Goals as goal
 
 pub loop-index-preserved : goal.loop-index-preserved

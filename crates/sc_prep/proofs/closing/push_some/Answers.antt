@@ -1,11 +1,7 @@
 use Rattle.std.proofs.Common.{List, [], ◌∷◌, ◌++◌, append-nil, ap, sym, subst, ◌∙◌, if◌then◌else◌}
-use Rattle.std.proofs.lemmas.Bool.{true≢false}
-use Rattle.sc_base.specs.declared.id.Cond.{Cond}
-use Rattle.sc_base.specs.declared.token.Token.{Token}
-use Rattle.sc_guarded.proofs.ItemLemmas.{items_at-append}
-use Rattle.sc_guarded.specs.Items.{items_at}
-use Rattle.sc_prep.specs.Closes.{IsPart}
+use Rattle.sc_prep.proofs.Facts.{items_at-append, true≢false}
 use Rattle.sc_prep.proofs.RunLemmas.{part-with, part-without}
+use Rattle.sc_prep.proofs.Terms.{Cond, IsPart, Token, items_at}
 use Rattle.sc_prep.proofs.closing.push_some.Goals as goal
 
 pub returns-then-is_never-clause-part : goal.returns-then-is_never-clause-part

@@ -1,12 +1,7 @@
 use Rattle.std.proofs.Common.{List, sym, subst, take}
-use Rattle.sc_base.specs.declared.id.Cond.{Cond}
-use Rattle.sc_base.specs.declared.token.Token.{Token}
-use Rattle.sc_expand.proofs.AlikeLemmas.{All-at}
-use Rattle.sc_expand.proofs.Ending.{take-next}
-use Rattle.sc_model.proofs.SetLemmas.{Denotes-Keeps, Denotes-self, Keeps-trans}
-use Rattle.sc_model.specs.Sets.{IsCond}
-use Rattle.sc_prep.specs.Closes.{IsWithin}
+use Rattle.sc_prep.proofs.Facts.{All-at, Denotes-Keeps, Denotes-self, Keeps-trans, take-next}
 use Rattle.sc_prep.proofs.RunLemmas.{part-later, within-next}
+use Rattle.sc_prep.proofs.Terms.{Cond, IsCond, IsWithin, Token}
 use Rattle.sc_prep.proofs.closing.within.Goals as goal
 
 pub loop-index-preserved : goal.loop-index-preserved

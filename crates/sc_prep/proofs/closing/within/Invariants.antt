@@ -1,6 +1,5 @@
 use Rattle.std.proofs.Common.{take}
-use Rattle.sc_model.specs.Sets.{Keeps}
-use Rattle.sc_prep.specs.Closes.{IsWithin}
+use Rattle.sc_prep.proofs.Terms.{IsWithin, Keeps}
 use Rattle.sc_prep.proofs.closing.within.Given as goal
 
 abbrev pub invariant-loop-index : goal.invariant-loop-index

@@ -1,4 +1,4 @@
-use Rattle.sc_table.proofs.Growth.{IsTable-Keeps}
+use Rattle.sc_prep.proofs.Facts.{IsTable-Keeps}
 use Rattle.sc_prep.proofs.WalkMoves.{still-after}
 use Rattle.sc_prep.proofs.conditional.taken.Goals as goal
 

@@ -1,5 +1,5 @@
 use Rattle.std.proofs.Common.{length, ◌+◌, ◌-◌}
-use Rattle.sc_prep.specs.Contents.{ReadsSame}
+use Rattle.sc_prep.proofs.Terms.{ReadsSame}
 use Rattle.sc_prep.proofs.content.keep.Given as goal
 
 abbrev pub invariant-loop-readings : goal.invariant-loop-readings

@@ -1,12 +1,10 @@
 use Rattle.std.proofs.Common.{Some, refl, sym, subst, arith}
 use Rattle.sc_base.specs.declared.place.Place.{Place}
 use Rattle.sc_lex.specs.Spell as lex
-use Rattle.sc_lex.specs.Spell.{AreTokensOf, IsUnendedAt}
 use Rattle.sc_lines.specs.Nests as nests
-use Rattle.sc_model.specs.declared.cause.Cause.TheVariants.{BadNesting, UnterminatedComment}
-use Rattle.sc_prep.specs.Contents.{IsContent}
-use Rattle.sc_prep.specs.declared.content.Content.TheVariants as content
 use Rattle.sc_prep.proofs.ReadContent.{held-lines, nested-lines, refused-comment, refused-large, refused-nesting}
+use Rattle.sc_prep.proofs.Terms.{BadNesting, IsContent, IsUnendedAt, UnterminatedComment}
+use Rattle.sc_prep.specs.declared.content.Content.TheVariants as content
 use Rattle.sc_prep.proofs.content.read_content.Goals as goal
 
 pub returns-then-bytes-gt-LARGEST_FILE-clause-content : goal.returns-then-bytes-gt-LARGEST_FILE-clause-content

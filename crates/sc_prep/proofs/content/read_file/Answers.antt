@@ -1,7 +1,6 @@
 use Rattle.std.proofs.Common.{◌≡◌, ◌∙◌, List, Some, ap, slice_get, sym, subst, ℕ}
-use Rattle.std.specs.Option.{option_map}
-use Rattle.sc_prep.specs.Contents.{IsContent, IsReading}
 use Rattle.sc_prep.proofs.Contents.{reads-absent, reads-content}
+use Rattle.sc_prep.proofs.Terms.{IsContent, IsReading, option_map}
 use Rattle.sc_prep.proofs.content.read_file.Goals as goal
 
 pub returns-in_default-clause-reading : goal.returns-in_default-clause-reading

@@ -1,7 +1,7 @@
 use Rattle.std.proofs.Common.{◌≡◌, ◌∙◌, Some, refl, sym, subst}
-use Rattle.sc_model.proofs.SetLemmas.{Denotes-self}
-use Rattle.sc_prep.specs.Finding.{part_of}
+use Rattle.sc_prep.proofs.Facts.{Denotes-self}
 use Rattle.sc_prep.proofs.FindLemmas.{joined-enters, joined-others, pushed-enters, pushed-others, own-found}
+use Rattle.sc_prep.proofs.Terms.{part_of}
 use Rattle.sc_prep.proofs.finding.add_part.Goals as goal
 
 pub returns-in_ok-parts-in-Some-clause-enters : goal.returns-in_ok-parts-in-Some-clause-enters

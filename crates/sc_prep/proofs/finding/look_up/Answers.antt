@@ -1,8 +1,8 @@
 use Rattle.std.proofs.Common.{subst}
-use Rattle.sc_base.proofs.Growth.{Extends-refl}
-use Rattle.sc_prep.specs.Contents.{AreContents}
 use Rattle.sc_prep.proofs.Contents.{contents-later}
+use Rattle.sc_prep.proofs.Facts.{Extends-refl}
 use Rattle.sc_prep.proofs.FindLemmas.{interned-plain}
+use Rattle.sc_prep.proofs.Terms.{AreContents}
 use Rattle.sc_prep.proofs.finding.look_up.Goals as goal
 
 pub read-requires-clause-contents : goal.read-requires-clause-contents

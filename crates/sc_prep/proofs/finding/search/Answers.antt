@@ -1,11 +1,9 @@
-use Rattle.std.proofs.Common.{◌∙◌, Some, [], ◌∷◌, map, sym, ap, subst, arith}
-use Rattle.std.proofs.lemmas.List.{take_all}
-use Rattle.std.specs.Prelude.{string_bytes}
+use Rattle.std.proofs.Common.{◌∙◌, Some, [], ◌∷◌, map, sym, ap, subst, arith, string_bytes}
 use Rattle.c11_directives.specs.Pre as model
-use Rattle.sc_base.proofs.Growth.{Extends-trans}
-use Rattle.sc_prep.specs.Finding.{LooksUp, absent, present}
 use Rattle.sc_prep.proofs.Contents.{agrees-back}
+use Rattle.sc_prep.proofs.Facts.{Extends-trans, take_all}
 use Rattle.sc_prep.proofs.FindLemmas.{looks-more, name-absent, name-present, search-here, search-next}
+use Rattle.sc_prep.specs.Finding.{LooksUp, absent, present}
 use Rattle.sc_prep.proofs.finding.search.Goals as goal
 
 pub returns-in-Some-clause-searched : goal.returns-in-Some-clause-searched

@@ -1,10 +1,6 @@
-use Rattle.std.proofs.Common.{◌≡◌, ◌≤◌, None, map, take}
-use Rattle.std.specs.Prelude.{string_bytes}
+use Rattle.std.proofs.Common.{◌≡◌, ◌≤◌, None, map, take, string_bytes}
 use Rattle.c11_directives.specs.Pre as model
-use Rattle.sc_model.specs.Growth.{Extends}
-use Rattle.sc_model.specs.Outside.{Files}
-use Rattle.sc_prep.specs.Contents.{Agrees}
-use Rattle.sc_prep.specs.Finding.{LooksUp}
+use Rattle.sc_prep.proofs.Terms.{Agrees, Extends, Files, LooksUp}
 use Rattle.sc_prep.proofs.finding.search.Given as goal
 
 abbrev pub invariant-loop-name : goal.invariant-loop-name

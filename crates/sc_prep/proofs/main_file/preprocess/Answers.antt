@@ -1,27 +1,12 @@
 use Rattle.std.proofs.Common.{◌∙◌, ◌<◌, Global, Option, Some, ap, length, sym, subst}
-use Rattle.std.proofs.lemmas.Option.{none-some}
-use Rattle.std.proofs.lemmas.Result.{err_from_is_err_and}
-use Rattle.std.specs.Option.{option_map}
-use Rattle.std.specs.declared.rc.Rc.{Rc}
-use Rattle.c11_directives.specs.Pre.{context_of}
-use Rattle.sc_base.proofs.Growth.{Extends-keeps, Extends-trans, Extends-within}
-use Rattle.sc_base.specs.declared.id.FileId.{FileId}
 use Rattle.sc_base.specs.declared.place.Place.{Place}
-use Rattle.sc_base.specs.Seen.{seen_place}
-use Rattle.sc_model.specs.declared.cause.Cause.TheVariants.{NotFound}
-use Rattle.sc_model.specs.Fault.{fault_at}
 use Rattle.sc_prep.proofs.Contents.{may-be-held}
+use Rattle.sc_prep.proofs.Facts.{Extends-keeps, Extends-trans, Extends-within, err_from_is_err_and, none-some}
 use Rattle.sc_prep.proofs.FindLemmas.{name-absent}
-use Rattle.sc_prep.proofs.main_file.preprocess.Goals as goal
-use Rattle.sc_prep.proofs.main_file.preprocess.Goals.{After-drop-walk-7}
 use Rattle.sc_prep.proofs.MainFile.{CanBeShown-end, IsOrdinary-end, begins-new, contents-new, end-inside, entered-is, entered-live, entered-shown, entered-stops, main-end, none-passed, paths-interned, plain-new, ready-new, refused-is, refused-live, refused-owns, refused-shown, space-context}
 use Rattle.sc_prep.proofs.MainWalk.{missing-ordinary}
-use Rattle.sc_prep.specs.Contents.{end_place}
-use Rattle.sc_prep.specs.declared.content.Content.{Content}
-use Rattle.sc_prep.specs.declared.walk.Walk.{Walk}
-use Rattle.sc_prep.specs.Preprocesses.{IsRefused}
-use Rattle.sc_prep.specs.Printable.{is_plain}
-use Rattle.sc_space.specs.Seen.{seen_space}
+use Rattle.sc_prep.proofs.Terms.{Content, FileId, IsRefused, NotFound, Rc, Walk, context_of, end_place, fault_at, is_plain, option_map, seen_place, seen_space}
+use Rattle.sc_prep.proofs.main_file.preprocess.Goals as goal
 
 pub read-requires-clause-contents : goal.read-requires-clause-contents
 read-requires-clause-contents g c = contents-new c.args.space.now.standard c.start.new.names c.intern.new.self (g.S.Source.holds c.args.src.now) c.new-contents.result c.new-contents.ensures

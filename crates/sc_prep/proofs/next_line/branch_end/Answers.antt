@@ -1,8 +1,7 @@
 use Rattle.std.proofs.Common.{◌∙◌, ◌+◌, sym, ap, subst, None, arith}
-use Rattle.sc_lines.specs.Branches.{ends_branch}
 use Rattle.sc_lines.specs.declared.line.Line.{Line}
-use Rattle.sc_prep.specs.Passes.{PassesOver, nothing}
 use Rattle.sc_prep.proofs.Passing.{found-conditional, found-more, found-within}
+use Rattle.sc_prep.proofs.Terms.{PassesOver, ends_branch, nothing}
 use Rattle.sc_prep.proofs.next_line.branch_end.Goals as goal
 
 -- what stands past the last line

@@ -1,6 +1,6 @@
 use Rattle.std.proofs.Common.{length, ◌-◌, ◌≤◌, List}
 use Rattle.c11_directives.specs.Lines as model
-use Rattle.sc_prep.specs.Passes.{StandFor, PassesOver}
+use Rattle.sc_prep.proofs.Terms.{PassesOver, StandFor}
 use Rattle.sc_prep.proofs.next_line.branch_end.Given as goal
 
 abbrev pub invariant-loop-number : goal.invariant-loop-number

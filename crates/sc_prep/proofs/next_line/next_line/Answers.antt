@@ -1,8 +1,6 @@
-use Rattle.std.proofs.Common.{◌≡◌, ◌+◌, true, None, sym, subst}
-use Rattle.std.specs.Prelude.{MatchBool}
-use Rattle.sc_lines.specs.Branches.{HasBranch}
-use Rattle.sc_prep.specs.Passes.{EndsAt}
+use Rattle.std.proofs.Common.{◌≡◌, ◌+◌, true, None, sym, subst, MatchBool}
 use Rattle.sc_prep.proofs.Passing.{branch-over, found-branch}
+use Rattle.sc_prep.proofs.Terms.{EndsAt, HasBranch}
 use Rattle.sc_prep.proofs.next_line.next_line.Goals as goal
 
 pub returns-in-Some : goal.returns-in-Some

@@ -1,7 +1,6 @@
 use Rattle.std.proofs.Common.{◌≡◌, ◌<◌, ◌≤◌, ◌+◌, ◌*◌, ◌-◌, true, drop, get_or, length, subst, sym, arith, rules}
-use Rattle.c11_directives.specs.Behind.{greatest_line}
-use Rattle.sc_model.specs.Bytes.{is_digit}
 use Rattle.sc_prep.proofs.LineNumbers.{IsRead, all-read, great-read, one-read}
+use Rattle.sc_prep.proofs.Terms.{greatest_line, is_digit}
 use Rattle.sc_prep.proofs.numbering.is_line_number.Goals as goal
 
 pub returns-then-number-gt-GREATEST_LINE : goal.returns-then-number-gt-GREATEST_LINE

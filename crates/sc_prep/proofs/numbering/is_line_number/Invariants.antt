@@ -1,6 +1,6 @@
 use Rattle.std.proofs.Common.{◌≤◌, drop}
-use Rattle.c11_directives.specs.Behind.{greatest_line}
 use Rattle.sc_prep.proofs.LineNumbers.{IsRead}
+use Rattle.sc_prep.proofs.Terms.{greatest_line}
 use Rattle.sc_prep.proofs.numbering.is_line_number.Given as goal
 
 abbrev pub invariant-loop-byte : goal.invariant-loop-byte

@@ -1,14 +1,9 @@
 use Rattle.std.proofs.Common.{◌≡◌, ◌≤◌, not, Bool, true, false, List, [], length, map, take, ap, arith, sym, subst}
-use Rattle.std.proofs.lemmas.List.{take_all}
-use Rattle.std.specs.List.{list_any}
-use Rattle.c11_directives.specs.Behind.{is_numbering}
-use Rattle.sc_base.specs.declared.token.Token.{Token}
-use Rattle.sc_base.specs.Seen.{seen}
-use Rattle.sc_model.proofs.SetLemmas.{Denotes-Keeps, Denotes-self, Keeps-trans}
-use Rattle.sc_model.specs.Sets.{Denotes, IsCond}
+use Rattle.sc_prep.proofs.Facts.{Denotes-Keeps, Denotes-self, Keeps-trans, take_all}
+use Rattle.sc_prep.proofs.NumberMoves.{none-passes, one-passes, tested}
+use Rattle.sc_prep.proofs.Terms.{Denotes, IsCond, Token, is_numbering, list_any, seen}
 use Rattle.sc_prep.specs.Alternatives.{tokens_in}
 use Rattle.sc_prep.specs.declared.alternatives.Alternative.{Alternative}
-use Rattle.sc_prep.proofs.NumberMoves.{none-passes, one-passes, tested}
 use Rattle.sc_prep.proofs.numbering.not_numbered.Goals as goal
 
 pub apply_or-requires-clause-a_own : goal.apply_or-requires-clause-a_own

@@ -1,8 +1,5 @@
 use Rattle.std.proofs.Common.{ℕ, not, List, map, take}
-use Rattle.std.specs.List.{list_any}
-use Rattle.c11_directives.specs.Behind.{is_numbering}
-use Rattle.sc_base.specs.Seen.{seen}
-use Rattle.sc_model.specs.Sets.{Denotes, Keeps}
+use Rattle.sc_prep.proofs.Terms.{Denotes, Keeps, is_numbering, list_any, seen}
 use Rattle.sc_prep.specs.Alternatives.{tokens_in}
 use Rattle.sc_prep.proofs.numbering.not_numbered.Given as goal
 

@@ -1,7 +1,5 @@
-use Rattle.std.proofs.Common.{[], ap, sym, ◌∙◌}
-use Rattle.std.specs.Prelude.{codes, unwrap_or}
-use Rattle.c11_directives.specs.Pre.{names_once}
-use Rattle.sc_model.specs.Bytes.{same_bytes}
+use Rattle.std.proofs.Common.{[], ap, sym, ◌∙◌, codes}
+use Rattle.sc_prep.proofs.Terms.{names_once, same_bytes, unwrap_or}
 use Rattle.sc_prep.proofs.once.is_once.Goals as goal
 
 pub returns-in-None : goal.returns-in-None

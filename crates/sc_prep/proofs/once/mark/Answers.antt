@@ -1,5 +1,5 @@
 use Rattle.std.proofs.Common.{◌∙◌, sym, subst}
-use Rattle.sc_model.proofs.SetLemmas.{Denotes-self}
+use Rattle.sc_prep.proofs.Facts.{Denotes-self}
 use Rattle.sc_prep.proofs.OnceLemmas.{OnceFile-position, found-owned, joins-file}
 use Rattle.sc_prep.proofs.once.mark.Goals as goal
 

@@ -1,5 +1,5 @@
-use Rattle.std.specs.Prelude.{not}
-use Rattle.sc_model.proofs.SetLemmas.{Denotes-Keeps, Denotes-self}
+use Rattle.std.proofs.Common.{not}
+use Rattle.sc_prep.proofs.Facts.{Denotes-Keeps, Denotes-self}
 use Rattle.sc_prep.proofs.OnceLemmas.{unless-other, unless-same}
 use Rattle.sc_prep.proofs.once.unless_marked.Goals as goal
 

@@ -1,8 +1,6 @@
-use Rattle.std.proofs.lemmas.List.{take_more}
-use Rattle.std.proofs.lemmas.List.Elements.{All-get_or}
-use Rattle.sc_base.specs.Seen.{text_at}
-use Rattle.sc_model.proofs.SetLemmas.{Keeps-trans}
+use Rattle.sc_prep.proofs.Facts.{All-get_or, Keeps-trans, take_more}
 use Rattle.sc_prep.proofs.OnceLemmas.{Owned, without-next}
+use Rattle.sc_prep.proofs.Terms.{text_at}
 use Rattle.sc_prep.proofs.once.without_file.Goals as goal
 
 pub loop-marked-preserved : goal.loop-marked-preserved

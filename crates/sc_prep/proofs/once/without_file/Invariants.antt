@@ -1,7 +1,5 @@
 use Rattle.std.proofs.Common.{◌&&◌, not, take}
-use Rattle.sc_base.specs.Seen.{text_at}
-use Rattle.sc_model.specs.Sets.{Denotes, Keeps}
-use Rattle.sc_prep.specs.Once.{once_at}
+use Rattle.sc_prep.proofs.Terms.{Denotes, Keeps, once_at, text_at}
 use Rattle.sc_prep.proofs.once.without_file.Given as goal
 
 abbrev pub invariant-loop-marked : goal.invariant-loop-marked

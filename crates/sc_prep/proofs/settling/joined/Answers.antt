@@ -1,10 +1,7 @@
 use Rattle.std.proofs.Common.{◌≡◌, ℕ, ◌&&◌, List, Some, slice_get, subst}
-use Rattle.sc_base.specs.declared.id.Cond.{Cond}
-use Rattle.sc_base.specs.declared.token.Token.{Token}
-use Rattle.sc_expand.proofs.AlikeLemmas.{All-at}
-use Rattle.sc_model.proofs.SetLemmas.{Denotes-Keeps, Denotes-self, Keeps-trans}
-use Rattle.sc_model.specs.Sets.{IsCond}
+use Rattle.sc_prep.proofs.Facts.{All-at, Denotes-Keeps, Denotes-self, Keeps-trans}
 use Rattle.sc_prep.proofs.LeftItems.{stays-joined}
+use Rattle.sc_prep.proofs.Terms.{Cond, IsCond, Token}
 use Rattle.sc_prep.proofs.settling.joined.Goals as goal
 
 pub returns-then-is_same-clause-stays : goal.returns-then-is_same-clause-stays

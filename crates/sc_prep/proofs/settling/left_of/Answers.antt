@@ -1,15 +1,8 @@
 use Rattle.std.proofs.Common.{◌≡◌, ◌≤◌, length, ap, sym, subst, ◌∙◌, arith}
-use Rattle.std.proofs.lemmas.Bool.{eqb-true}
-use Rattle.std.proofs.lemmas.List.{take_all}
-use Rattle.sc_base.specs.declared.id.Cond.{Cond}
-use Rattle.sc_expand.proofs.AlikeLemmas.{All-at}
-use Rattle.sc_expand.proofs.Ending.{take-next}
-use Rattle.sc_model.proofs.SetLemmas.{Keeps-refl, Keeps-trans}
-use Rattle.sc_model.specs.Sets.{IsCond}
+use Rattle.sc_prep.proofs.Facts.{All-at, Keeps-refl, Keeps-trans, eqb-true, take-next, take_all}
 use Rattle.sc_prep.proofs.LeftItems.{left-more, left-nothing, left-without}
-use Rattle.sc_prep.specs.Settles.{HasLeft}
+use Rattle.sc_prep.proofs.Terms.{Cond, HasLeft, IsCond, set_at}
 use Rattle.sc_subst.specs.declared.hidden.Hidden.{Hidden}
-use Rattle.sc_subst.specs.Hides.{set_at}
 use Rattle.sc_prep.proofs.settling.left_of.Goals as goal
 
 pub loop-index-init : goal.loop-index-init

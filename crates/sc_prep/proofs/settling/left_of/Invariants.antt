@@ -1,6 +1,5 @@
 use Rattle.std.proofs.Common.{take}
-use Rattle.sc_model.specs.Sets.{Keeps}
-use Rattle.sc_prep.specs.Settles.{HasLeft}
+use Rattle.sc_prep.proofs.Terms.{HasLeft, Keeps}
 use Rattle.sc_prep.proofs.settling.left_of.Given as goal
 
 abbrev pub invariant-loop-index : goal.invariant-loop-index

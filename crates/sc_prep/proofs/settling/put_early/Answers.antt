@@ -1,11 +1,8 @@
 use Rattle.std.proofs.Common.{◌≡◌, ℕ, ◌&&◌, List, All, subst, sym, if◌then◌else◌}
-use Rattle.std.specs.Option.{IfSome}
 use Rattle.sc_base.specs.declared.fault.Fault.{Fault}
-use Rattle.sc_guarded.specs.Items.{items_at}
-use Rattle.sc_model.proofs.SetLemmas.{Keeps-trans}
-use Rattle.sc_model.specs.Sets.{Denotes, IsCond, IsConfig}
+use Rattle.sc_prep.proofs.Facts.{Keeps-trans}
 use Rattle.sc_prep.proofs.LeftItems.{early-of}
-use Rattle.sc_prep.specs.Closes.{IsPart, has_none}
+use Rattle.sc_prep.proofs.Terms.{Denotes, IfSome, IsCond, IsConfig, IsPart, has_none, items_at}
 use Rattle.sc_prep.proofs.settling.put_early.Goals as goal
 
 pub without_faults-requires-clause-faults : goal.without_faults-requires-clause-faults

@@ -1,9 +1,8 @@
 use Rattle.std.proofs.Common.{length}
-use Rattle.std.proofs.lemmas.Option.{IfSome_then}
 use Rattle.sc_expand.proofs.ExpandLemmas.{hidden-held}
-use Rattle.sc_model.proofs.SetLemmas.{Keeps-trans}
+use Rattle.sc_prep.proofs.Facts.{IfSome_then, Keeps-trans}
 use Rattle.sc_prep.proofs.SettledLists.{settles-list}
-use Rattle.sc_table.specs.Table.{macros_at}
+use Rattle.sc_prep.proofs.Terms.{macros_at}
 use Rattle.sc_prep.proofs.settling.settled.Goals as goal
 
 pub settle-requires-clause-held : goal.settle-requires-clause-held

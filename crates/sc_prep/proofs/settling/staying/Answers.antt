@@ -1,13 +1,8 @@
 use Rattle.std.proofs.Common.{sym, subst, arith, take}
-use Rattle.sc_base.specs.declared.id.Cond.{Cond}
-use Rattle.sc_base.specs.declared.token.Token.{Token}
-use Rattle.sc_expand.proofs.AlikeLemmas.{All-at}
-use Rattle.sc_expand.proofs.Ending.{take-next}
-use Rattle.sc_model.proofs.SetLemmas.{Denotes-Keeps, Denotes-self, Keeps-trans}
-use Rattle.sc_model.specs.Sets.{IsCond}
+use Rattle.sc_prep.proofs.Facts.{All-at, Denotes-Keeps, Denotes-self, Keeps-trans, take-next}
 use Rattle.sc_prep.proofs.LeftItems.{staying-next, staying-nothing}
 use Rattle.sc_prep.proofs.RunLemmas.{part-later}
-use Rattle.sc_prep.specs.Closes.{IsPart}
+use Rattle.sc_prep.proofs.Terms.{Cond, IsCond, IsPart, Token}
 use Rattle.sc_prep.proofs.settling.staying.Goals as goal
 
 pub loop-index-init : goal.loop-index-init

@@ -1,7 +1,5 @@
 use Rattle.std.proofs.Common.{◌≡◌, ℕ, ◌≤◌, not, List, length, take, if◌then◌else◌}
-use Rattle.sc_guarded.specs.Items.{items_at}
-use Rattle.sc_model.specs.Sets.{Denotes, IsConfig, Keeps}
-use Rattle.sc_prep.specs.Closes.{IsPart}
+use Rattle.sc_prep.proofs.Terms.{Denotes, IsConfig, IsPart, Keeps, items_at}
 use Rattle.sc_prep.proofs.settling.staying.Given as goal
 
 abbrev pub invariant-loop-index : goal.invariant-loop-index

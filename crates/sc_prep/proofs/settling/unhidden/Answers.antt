@@ -1,12 +1,7 @@
 use Rattle.std.proofs.Common.{◌≡◌, []}
-use Rattle.sc_base.specs.declared.id.Cond.{Cond}
-use Rattle.sc_base.specs.declared.token.Token.{Token}
-use Rattle.sc_base.specs.Seen.{IsHeld}
-use Rattle.sc_expand.proofs.Ending.{All-later, begun-next}
-use Rattle.sc_expand.proofs.AlikeLemmas.{All-at}
+use Rattle.sc_prep.proofs.Facts.{All-at, All-later, begun-next}
+use Rattle.sc_prep.proofs.Terms.{Cond, IsHeld, IsHeldHidden, Token, set_at}
 use Rattle.sc_subst.specs.declared.hidden.Hidden.{Hidden}
-use Rattle.sc_subst.specs.Hides.{set_at}
-use Rattle.sc_subst.specs.Seen.{IsHeldHidden}
 use Rattle.sc_prep.proofs.settling.unhidden.Goals as goal
 
 pub loop-index-preserved : goal.loop-index-preserved

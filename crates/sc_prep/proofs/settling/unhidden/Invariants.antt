@@ -1,10 +1,6 @@
 use Rattle.std.proofs.Common.{◌≡◌, ℕ, [], List, All, map, take}
-use Rattle.sc_base.specs.declared.id.Cond.{Cond}
-use Rattle.sc_base.specs.declared.token.Token.{Token}
-use Rattle.sc_base.specs.Seen.{IsHeld}
+use Rattle.sc_prep.proofs.Terms.{Cond, IsHeld, IsHeldHidden, Token, set_at}
 use Rattle.sc_subst.specs.declared.hidden.Hidden.{Hidden}
-use Rattle.sc_subst.specs.Hides.{set_at}
-use Rattle.sc_subst.specs.Seen.{IsHeldHidden}
 use Rattle.sc_prep.proofs.settling.unhidden.Given as goal
 
 abbrev pub invariant-loop-index : goal.invariant-loop-index

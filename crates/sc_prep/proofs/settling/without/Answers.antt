@@ -1,5 +1,5 @@
 use Rattle.std.proofs.Common.{ℕ, List, not}
-use Rattle.sc_model.proofs.SetLemmas.{Denotes-Keeps, Denotes-self}
+use Rattle.sc_prep.proofs.Facts.{Denotes-Keeps, Denotes-self}
 use Rattle.sc_prep.proofs.settling.without.Goals as goal
 
 pub returns-clause-without : goal.returns-clause-without

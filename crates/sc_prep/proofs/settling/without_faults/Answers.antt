@@ -1,12 +1,8 @@
 use Rattle.std.proofs.Common.{◌+◌, ◌∙◌, ap, take}
-use Rattle.std.proofs.lemmas.List.{take_more}
-use Rattle.std.proofs.lemmas.List.Elements.{All-get_or}
 use Rattle.sc_base.specs.declared.fault.Fault.{Fault}
-use Rattle.sc_guarded.proofs.ItemLemmas.{faults_at-append}
-use Rattle.sc_guarded.specs.Items.{faults_at}
-use Rattle.sc_model.proofs.SetLemmas.{Denotes-Keeps, Denotes-self, Keeps-refl, Keeps-trans}
-use Rattle.sc_model.specs.Sets.{IsCond}
+use Rattle.sc_prep.proofs.Facts.{All-get_or, Denotes-Keeps, Denotes-self, Keeps-refl, Keeps-trans, faults_at-append, take_more}
 use Rattle.sc_prep.proofs.RunLemmas.{without-nothing, without-one}
+use Rattle.sc_prep.proofs.Terms.{IsCond, faults_at}
 use Rattle.sc_prep.proofs.settling.without_faults.Goals as goal
 
 pub loop-fault-init : goal.loop-fault-init

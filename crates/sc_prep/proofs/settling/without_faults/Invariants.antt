@@ -1,6 +1,5 @@
 use Rattle.std.proofs.Common.{◌&&◌, take}
-use Rattle.sc_model.specs.Sets.{Denotes, Keeps}
-use Rattle.sc_prep.specs.Closes.{has_none}
+use Rattle.sc_prep.proofs.Terms.{Denotes, Keeps, has_none}
 use Rattle.sc_prep.proofs.settling.without_faults.Given as goal
 
 abbrev pub invariant-loop-fault : goal.invariant-loop-fault

@@ -1,7 +1,7 @@
 use Rattle.std.proofs.Common.{[], get_or, sym, subst}
-use Rattle.std.proofs.lemmas.Option.{slice_get-get_or}
-use Rattle.sc_prep.specs.Contents.{AreContents}
 use Rattle.sc_prep.proofs.Contents.{contents-kept}
+use Rattle.sc_prep.proofs.Facts.{slice_get-get_or}
+use Rattle.sc_prep.proofs.Terms.{AreContents}
 use Rattle.sc_prep.proofs.content.Contents.read.Goals as goal
 
 pub returns-clause-contents : goal.returns-clause-contents

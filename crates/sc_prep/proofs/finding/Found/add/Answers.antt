@@ -1,9 +1,7 @@
 use Rattle.std.proofs.Common.{ap, refl, subst, sym}
-use Rattle.std.specs.Option.{option_map}
-use Rattle.sc_model.proofs.SetLemmas.{Denotes-self}
-use Rattle.sc_prep.specs.declared.finding.Found.{Found}
-use Rattle.sc_prep.specs.Finding.{AddsFile}
+use Rattle.sc_prep.proofs.Facts.{Denotes-self}
 use Rattle.sc_prep.proofs.FindLemmas.{adds-none}
+use Rattle.sc_prep.proofs.Terms.{AddsFile, Found, option_map}
 use Rattle.sc_prep.proofs.finding.Found.add.Goals as goal
 
 pub returns-in_ok-self-in-None-clause-adds : goal.returns-in_ok-self-in-None-clause-adds

@@ -1,20 +1,9 @@
-use Rattle.std.proofs.Common.{◌≡◌, ◌∙◌, map, true, sym, ap, refl, subst, arith}
-use Rattle.std.specs.Option.{option_map}
-use Rattle.std.specs.Prelude.{string_bytes, unwrap_or, []}
-use Rattle.c11_headers.specs.Headers.{candidates}
-use Rattle.sc_base.proofs.Growth.{Extends-refl, Extends-trans}
-use Rattle.sc_base.specs.Seen.{text_at}
-use Rattle.sc_include.specs.Seen.{seen_header}
-use Rattle.sc_model.proofs.SetLemmas.{Keeps-refl, Keeps-trans}
-use Rattle.sc_model.specs.Bytes.{has_no_newline}
-use Rattle.sc_model.specs.Sets.{IsCond}
-use Rattle.sc_prep.specs.Contents.{AreContents}
-use Rattle.sc_prep.specs.Finding.{IsSearched}
-use Rattle.sc_prep.specs.Printable.{ArePlainPaths}
-use Rattle.sc_prep.specs.declared.naming.Named.{Named}
-use Rattle.sc_prep.proofs.LeadMoves.{contents-stay, contents-then}
+use Rattle.std.proofs.Common.{◌≡◌, ◌∙◌, map, true, sym, ap, refl, subst, arith, string_bytes, []}
+use Rattle.sc_prep.proofs.Facts.{Extends-refl, Extends-trans, Keeps-refl, Keeps-trans}
 use Rattle.sc_prep.proofs.FoundFiles.{asked-plain, nothing-found, one-found, parts-kept}
+use Rattle.sc_prep.proofs.LeadMoves.{contents-stay, contents-then}
 use Rattle.sc_prep.proofs.PlainRuns.{path-plain}
+use Rattle.sc_prep.proofs.Terms.{AreContents, ArePlainPaths, IsCond, IsSearched, Named, candidates, has_no_newline, option_map, seen_header, text_at, unwrap_or}
 use Rattle.sc_prep.proofs.finding.Found.find.Goals as goal
 
 pub loop-name-init : goal.loop-name-init

@@ -1,13 +1,5 @@
-use Rattle.std.proofs.Common.{◌≡◌, ◌≤◌, All, map, take, true}
-use Rattle.std.specs.Prelude.{string_bytes}
-use Rattle.sc_base.specs.Seen.{text_at}
-use Rattle.sc_model.specs.Bytes.{has_no_newline}
-use Rattle.sc_model.specs.Growth.{Extends}
-use Rattle.sc_model.specs.Sets.{Keeps}
-use Rattle.sc_prep.specs.Contents.{AreContents, KeepsContents}
-use Rattle.sc_prep.specs.Finding.{AreFound}
-use Rattle.sc_prep.specs.Printable.{ArePlainPaths}
-use Rattle.sc_prep.specs.declared.naming.Named.{Named}
+use Rattle.std.proofs.Common.{◌≡◌, ◌≤◌, All, map, take, true, string_bytes}
+use Rattle.sc_prep.proofs.Terms.{AreContents, AreFound, ArePlainPaths, Extends, Keeps, KeepsContents, Named, has_no_newline, text_at}
 use Rattle.sc_prep.proofs.finding.Found.find.Given as goal
 
 abbrev pub invariant-loop-name : goal.invariant-loop-name

@@ -1,11 +1,9 @@
 use Rattle.std.proofs.Common.{refl, sym, subst}
-use Rattle.sc_include.specs.Seen.{NamesHeader}
-use Rattle.sc_include.specs.declared.stop.IncludeStop.TheVariants as stop
 use Rattle.sc_include.specs.Seen as include
-use Rattle.sc_model.proofs.SetLemmas.{Denotes-self}
-use Rattle.std.proofs.lemmas.List.Elements.{All-push}
-use Rattle.sc_prep.specs.Naming.{ArePlainNames}
+use Rattle.sc_include.specs.declared.stop.IncludeStop.TheVariants as stop
+use Rattle.sc_prep.proofs.Facts.{All-push, Denotes-self}
 use Rattle.sc_prep.proofs.HeaderLemmas.{IsPlainName, adds-named, adds-unnamed, named-plain}
+use Rattle.sc_prep.proofs.Terms.{ArePlainNames, NamesHeader}
 use Rattle.sc_prep.proofs.naming.Headers.add.Goals as goal
 
 pub returns-in_ok-push-in-Ok-clause-adds : goal.returns-in_ok-push-in-Ok-clause-adds

@@ -1,13 +1,8 @@
 use Rattle.std.proofs.Common.{◌≡◌, All, sym, subst, true}
-use Rattle.std.proofs.lemmas.List.Elements.{All-nil}
-use Rattle.sc_model.proofs.SetLemmas.{Keeps-refl, Keeps-trans}
-use Rattle.sc_model.specs.Sets.{IsCond}
-use Rattle.sc_base.specs.Seen.{IsHeld}
-use Rattle.sc_prep.specs.declared.alternatives.Alternative.{Alternative}
-use Rattle.sc_base.specs.declared.token.Token.{Token}
-use Rattle.sc_prep.specs.Naming.{ArePlainNames}
-use Rattle.sc_prep.specs.Printable.{is_plain}
+use Rattle.sc_prep.proofs.Facts.{All-nil, Keeps-refl, Keeps-trans}
 use Rattle.sc_prep.proofs.HeaderLemmas.{IsPlainName, none-named, one-named}
+use Rattle.sc_prep.proofs.Terms.{ArePlainNames, IsCond, IsHeld, Token, is_plain}
+use Rattle.sc_prep.specs.declared.alternatives.Alternative.{Alternative}
 use Rattle.sc_prep.proofs.naming.Headers.read.Goals as goal
 
 pub loop-alternative-init : goal.loop-alternative-init

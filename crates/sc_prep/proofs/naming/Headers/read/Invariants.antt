@@ -1,9 +1,6 @@
 use Rattle.std.proofs.Common.{◌≡◌, take, true}
-use Rattle.sc_model.specs.Sets.{Keeps}
-use Rattle.sc_prep.specs.Alternatives.{EachToken}
-use Rattle.sc_prep.specs.Naming.{AreHeaders, ArePlainNames}
-use Rattle.sc_prep.specs.Printable.{is_plain}
 use Rattle.sc_base.specs.declared.token.Token as base
+use Rattle.sc_prep.proofs.Terms.{AreHeaders, ArePlainNames, EachToken, Keeps, is_plain}
 use Rattle.sc_prep.proofs.naming.Headers.read.Given as goal
 
 abbrev pub invariant-loop-alternative : goal.invariant-loop-alternative

@@ -1,42 +1,26 @@
 use Rattle.std.proofs.Common.{rules, ◌≡◌, ◌∙◌, ℕ, ◌<◌, ◌++◌, List, [], All, Some, refl, sym, ap, subst, arith, length}
-use Rattle.std.proofs.lemmas.Result.{IfErr-weaker, on_ok_weaker}
-use Rattle.sc_base.proofs.Growth.{Extends-refl, Extends-trans, Extends-within}
-use Rattle.sc_lines.proofs.SeenLines.{directive-files}
-use Rattle.sc_base.specs.Seen.{text_at}
-use Rattle.sc_model.proofs.SetLemmas.{Keeps-trans}
+use Rattle.c11_directives.specs.declared.directive.Directive.TheVariants as kind
+use Rattle.sc_lines.specs.declared.line.Line.{Line}
+use Rattle.sc_prep.proofs.ApartLemmas.{gathers-same, gathers-then, apart-left, apart-right, lines-apart}
 use Rattle.sc_prep.proofs.Contents.{agrees-back, IsPlaced-later}
+use Rattle.sc_prep.proofs.DirectiveStops.{carried-stops, closing-stops}
 use Rattle.sc_prep.proofs.EnterLeads.{begun-plain, held-lines, held-refusal, kept-lines, kept-refusal, leads-inside, leads-nowhere, leads-refused, left-plain, refused-list}
-use Rattle.sc_prep.proofs.LeadMoves.{content-named, contents-stay, leads-one, limit-stops, ready-moved, ready-begun, ready-kept, ready-left, ready-refused, stops-later, stored-ready}
 use Rattle.sc_prep.proofs.ExpressionMoves.{empty_context}
+use Rattle.sc_prep.proofs.Facts.{All-get_or, All-weaker, Extends-refl, Extends-trans, Extends-within, IfErr-weaker, Keeps-trans, directive-files, on_ok_weaker}
+use Rattle.sc_prep.proofs.FileStops.{comes-inside}
 use Rattle.sc_prep.proofs.Going.{entry-within}
 use Rattle.sc_prep.proofs.IncludeLeads.{gone-closed, gone-entered, gone-found, gone-taken, parts-later}
-use Rattle.sc_prep.proofs.ApartLemmas.{gathers-same, gathers-then, apart-left, apart-right, lines-apart}
-use Rattle.sc_prep.proofs.NamedFiles.{held-later}
-use Rattle.sc_prep.proofs.WalkMoves.{owns-kept}
-use Rattle.sc_prep.specs.Apart.{StandApart, tokens_in}
-use Rattle.sc_prep.specs.declared.walk.Walk.{Walk}
+use Rattle.sc_prep.proofs.LeadMoves.{content-named, contents-stay, leads-one, limit-stops, ready-moved, ready-begun, ready-kept, ready-left, ready-refused, stops-later, stored-ready}
 use Rattle.sc_prep.proofs.LineSteps.{directive-long, lines-stand}
+use Rattle.sc_prep.proofs.NamedFiles.{held-later}
 use Rattle.sc_prep.proofs.Passing.{next-after}
 use Rattle.sc_prep.proofs.PlainRuns.{each-any, path-plain}
-use Rattle.sc_prep.proofs.WalkLeads.{gone-line, gone-nowhere, gone-over, line-directive, line-placed-now}
-use Rattle.sc_prep.specs.Machine as machine
-use Rattle.sc_prep.specs.Simulates.{IsBetweenRuns, IsIn, Leads}
-use Rattle.sc_prep.specs.Printable.{AllPass, is_plain, IsPlaced}
-use Rattle.sc_lines.specs.declared.line.Line.{Line}
-use Rattle.sc_lines.specs.Nests.{seen_lines}
-use Rattle.sc_lines.specs.Split.{directive_at, tokens_of}
-use Rattle.sc_model.specs.Sets.{IsCond}
-use Rattle.sc_prep.specs.Contents.{content_at}
-use Rattle.sc_prep.specs.Passes.{StandFor}
-use Rattle.sc_prep.specs.Includes.{ArePartsOf, EntersAt}
-use Rattle.sc_prep.specs.declared.entering.Around.{Around}
-use Rattle.sc_prep.specs.declared.including.Part.{Part}
-use Rattle.c11_directives.specs.declared.directive.Directive.TheVariants as kind
-use Rattle.std.proofs.lemmas.List.Elements.{All-get_or, All-weaker}
-use Rattle.sc_prep.proofs.FileStops.{comes-inside}
 use Rattle.sc_prep.proofs.Stopping.{answer-stops}
-use Rattle.sc_prep.proofs.DirectiveStops.{carried-stops, closing-stops}
+use Rattle.sc_prep.proofs.Terms.{AllPass, ArePartsOf, Around, EntersAt, IsBetweenRuns, IsCond, IsIn, IsPlaced, Leads, Part, StandApart, StandFor, Walk, content_at, directive_at, is_plain, seen_lines, text_at, tokens_in, tokens_of}
+use Rattle.sc_prep.proofs.WalkLeads.{gone-line, gone-nowhere, gone-over, line-directive, line-placed-now}
+use Rattle.sc_prep.proofs.WalkMoves.{owns-kept}
 use Rattle.sc_prep.proofs.WalkStops.{apart-first, apart-line, apart-next, end-stops, file-stops, line-stops, to_come}
+use Rattle.sc_prep.specs.Machine as machine
 use Rattle.sc_prep.proofs.walk.Walk.+files.Goals as goal
 
 pub enter-entering-requires-clause-owns : goal.enter-entering-requires-clause-owns

@@ -1,13 +1,7 @@
 use Rattle.std.proofs.Common.{◌+◌, ◌++◌, ◌-◌, ◌*◌, ◌≡◌, ◌≤◌, [], All, drop, length, take, true}
-use Rattle.sc_lines.specs.Nests.{seen_line, seen_lines}
 use Rattle.sc_prep.proofs.Going.{Gone, Staged}
+use Rattle.sc_prep.proofs.Terms.{ArePartsOf, GathersFrom, IsAtTop, IsIn, IsReady, Runs, StandApart, files_at, is_plain, seen_line, seen_lines, seen_space, tokens_in}
 use Rattle.sc_prep.proofs.WalkStops.{to_come}
-use Rattle.sc_prep.specs.Apart.{GathersFrom, StandApart, tokens_in}
-use Rattle.sc_prep.specs.Includes.{ArePartsOf, files_at}
-use Rattle.sc_prep.specs.Machine.{Runs}
-use Rattle.sc_prep.specs.Printable.{is_plain}
-use Rattle.sc_prep.specs.Simulates.{IsAtTop, IsIn, IsReady}
-use Rattle.sc_space.specs.Seen.{seen_space}
 use Rattle.sc_prep.proofs.walk.Walk.+files.Given as goal
 
 -- the files that may still be entered, one in the other, and the order of the calls at one depth

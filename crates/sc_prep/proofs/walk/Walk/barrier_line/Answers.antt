@@ -1,20 +1,13 @@
 use Rattle.std.proofs.Common.{◌∙◌, ◌++◌, All, refl, sym, ap, subst, Some, length, rules, []}
-use Rattle.std.proofs.lemmas.Result.{IfErr-weaker, on_ok_weaker}
 use Rattle.c11_directives.specs.declared.directive.Directive.TheVariants as kind
-use Rattle.sc_base.proofs.Growth.{Extends-trans}
-use Rattle.sc_expand.specs.Stops.{StopsBy}
-use Rattle.sc_model.proofs.SetLemmas.{Keeps-trans}
-use Rattle.sc_prep.specs.Printable.{AllPass, IsPlaced, any_token, is_plain}
+use Rattle.sc_prep.proofs.ApartLemmas.{apart-left, apart-right, gathers-same, gathers-then}
 use Rattle.sc_prep.proofs.CloseMoves.{placed-grown, plain-grown}
+use Rattle.sc_prep.proofs.DirectiveStops.{carried-stops, closing-stops}
+use Rattle.sc_prep.proofs.Facts.{Extends-trans, IfErr-weaker, Keeps-trans, on_ok_weaker}
 use Rattle.sc_prep.proofs.LineSteps.{directive-long}
 use Rattle.sc_prep.proofs.Stages.{no-memory, ok-three, stage-stops}
 use Rattle.sc_prep.proofs.TakeLine.{barrier-unconditional, stays-plain, takes-carried, takes-closed, unsaid}
-use Rattle.sc_prep.specs.Apart.{tokens_in}
-use Rattle.c11_directives.specs.Footprints.{MomentsHave}
-use Rattle.sc_lines.specs.Nests.{seen_line}
-use Rattle.sc_prep.specs.Footprints.{ComesAt, any_machine}
-use Rattle.sc_prep.proofs.ApartLemmas.{apart-left, apart-right, gathers-same, gathers-then}
-use Rattle.sc_prep.proofs.DirectiveStops.{carried-stops, closing-stops}
+use Rattle.sc_prep.proofs.Terms.{AllPass, ComesAt, IsPlaced, MomentsHave, StopsBy, any_machine, any_token, is_plain, seen_line, tokens_in}
 use Rattle.sc_prep.proofs.walk.Walk.barrier_line.Goals as goal
 
 pub number_line-requires-clause-placed : goal.number_line-requires-clause-placed

@@ -1,5 +1,5 @@
 use Rattle.std.proofs.Common.{◌&&◌, not}
-use Rattle.sc_model.proofs.SetLemmas.{Keeps-trans, Denotes-self, Denotes-Keeps}
+use Rattle.sc_prep.proofs.Facts.{Denotes-Keeps, Denotes-self, Keeps-trans}
 use Rattle.sc_prep.proofs.WalkMoves.{begins}
 use Rattle.sc_prep.proofs.walk.Walk.begin_section.Goals as goal
 

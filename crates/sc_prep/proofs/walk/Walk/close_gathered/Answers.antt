@@ -1,16 +1,11 @@
 use Rattle.std.proofs.Common.{◌≡◌, rules, true, []}
-use Rattle.c11_directives.specs.Footprints.{NameHas}
-use Rattle.sc_expand.proofs.FootprintLemmas.{expand-stops}
-use Rattle.sc_model.proofs.SetLemmas.{Keeps-trans}
 use Rattle.sc_prep.proofs.ApartLemmas.{gathers-part}
 use Rattle.sc_prep.proofs.CloseMoves.{closed-held, closed-plain, closes}
+use Rattle.sc_prep.proofs.Facts.{Keeps-trans, expand-stops}
 use Rattle.sc_prep.proofs.NameStops.{run-stops}
 use Rattle.sc_prep.proofs.PlainRuns.{each-closes-plain}
+use Rattle.sc_prep.proofs.Terms.{NameHas, StopsStage, acts, macros_at, tokens_in}
 use Rattle.sc_prep.proofs.WalkMoves.{owns-kept}
-use Rattle.sc_prep.specs.Apart.{tokens_in}
-use Rattle.sc_prep.specs.Machine.{acts}
-use Rattle.sc_prep.specs.Stages.{StopsStage}
-use Rattle.sc_table.specs.Table.{macros_at}
 use Rattle.sc_prep.proofs.walk.Walk.close_gathered.Goals as goal
 
 pub put_out-requires-clause-owns : goal.put_out-requires-clause-owns

@@ -1,15 +1,10 @@
 use Rattle.std.proofs.Common.{◌≡◌, ◌∙◌, rules, sym, refl, true, []}
-use Rattle.std.proofs.lemmas.Result.{IfErr-weaker, on_ok_weaker}
-use Rattle.c11_directives.specs.Footprints.{NameHas}
-use Rattle.sc_base.proofs.Growth.{Extends-trans}
-use Rattle.sc_model.proofs.SetLemmas.{Keeps-trans}
 use Rattle.sc_prep.proofs.ApartLemmas.{gathers-same}
 use Rattle.sc_prep.proofs.CloseMoves.{closes-empty, closes-none, no-items}
+use Rattle.sc_prep.proofs.Facts.{Extends-trans, IfErr-weaker, Keeps-trans, on_ok_weaker}
 use Rattle.sc_prep.proofs.SettleMoves.{settled-closes, settled-stops, stage-stored}
 use Rattle.sc_prep.proofs.Stages.{no-memory}
-use Rattle.sc_prep.specs.Apart.{tokens_in}
-use Rattle.sc_prep.specs.Machine.{acts}
-use Rattle.sc_prep.specs.Stages.{StopsStage}
+use Rattle.sc_prep.proofs.Terms.{NameHas, StopsStage, acts, tokens_in}
 use Rattle.sc_prep.proofs.walk.Walk.close_runs.Goals as goal
 
 pub returns-then-is_never-clause-closes : goal.returns-then-is_never-clause-closes

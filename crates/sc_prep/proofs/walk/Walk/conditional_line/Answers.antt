@@ -1,10 +1,8 @@
 use Rattle.std.proofs.Common.{◌∙◌, ap, sym, refl, Some, true, length}
 use Rattle.c11_directives.specs.declared.directive.Directive.TheVariants as directive
-use Rattle.c11_directives.specs.declared.directive.Conditional.TheVariants.{Else, Endif}
-use Rattle.c11_directives.specs.Lines.{conditional_in}
-use Rattle.sc_lines.proofs.SeenLines.{directive-files}
-use Rattle.sc_prep.specs.Printable.{any_token}
+use Rattle.sc_prep.proofs.Facts.{directive-files}
 use Rattle.sc_prep.proofs.TakeLine.{decides-unasked}
+use Rattle.sc_prep.proofs.Terms.{Else, Endif, any_token, conditional_in}
 use Rattle.sc_prep.proofs.walk.Walk.conditional_line.Goals as goal
 
 pub open_section-requires-clause-line : goal.open_section-requires-clause-line

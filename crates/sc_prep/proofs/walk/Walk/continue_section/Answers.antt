@@ -1,16 +1,9 @@
-use Rattle.std.proofs.Common.{ap, length, rules}
-use Rattle.std.proofs.lemmas.List.Elements.{All-nil}
-use Rattle.sc_model.proofs.SetLemmas.{Keeps-trans, Denotes-self}
-use Rattle.sc_lines.specs.Nests.{seen_line}
-use Rattle.c11_directives.specs.Footprints.{MomentsHave}
-use Rattle.c11_directives.specs.Lines.{test_in}
-use Rattle.sc_prep.specs.Printable.{IsPlaced, any_token}
-use Rattle.sc_prep.proofs.ExpressionMoves.{empty_context, section-goes_on}
-use Rattle.std.specs.Prelude.{[]}
-use Rattle.sc_prep.specs.Footprints.{ComesAt}
-use Rattle.sc_prep.specs.Stages.{StopsStage}
-use Rattle.sc_prep.proofs.Stages.{text-then}
+use Rattle.std.proofs.Common.{ap, length, rules, []}
 use Rattle.sc_prep.proofs.DirectiveStops.{alternative-stops}
+use Rattle.sc_prep.proofs.ExpressionMoves.{empty_context, section-goes_on}
+use Rattle.sc_prep.proofs.Facts.{All-nil, Denotes-self, Keeps-trans}
+use Rattle.sc_prep.proofs.Stages.{text-then}
+use Rattle.sc_prep.proofs.Terms.{ComesAt, IsPlaced, MomentsHave, StopsStage, any_token, seen_line, test_in}
 use Rattle.sc_prep.proofs.walk.Walk.continue_section.Goals as goal
 
 pub decide_test-requires-clause-line : goal.decide_test-requires-clause-line

@@ -1,36 +1,13 @@
-use Rattle.std.proofs.Common.{ℕ, ◌≡◌, List, Some, get_or, refl, rules, sym, subst, ap, ◌∙◌, length}
-use Rattle.std.proofs.lemmas.List.{drop-map}
-use Rattle.std.proofs.lemmas.List.Elements.{All-drop, All-get_or}
-use Rattle.std.proofs.lemmas.Result.{IfErr-weaker, IfOk-weaker}
-use Rattle.std.specs.Prelude.{◌&&◌, All, drop, false, is_none, map, ◌<◌}
-use Rattle.c11_directives.specs.Behind.{behind_name}
-use Rattle.c11_directives.specs.declared.directive.Test.TheVariants.{Expression}
-use Rattle.c11_directives.specs.Lines.{test_of}
-use Rattle.sc_base.proofs.Growth.{Extends-trans}
-use Rattle.sc_base.specs.declared.token.Token.{Token}
-use Rattle.sc_base.specs.Seen.{IsHeld, seen}
-use Rattle.sc_expand.specs.Stops.{StopsBy}
-use Rattle.sc_guarded.specs.Items.{items_at}
-use Rattle.sc_lines.specs.Nests.{seen_line}
-use Rattle.sc_model.proofs.SetLemmas.{Keeps-trans, Denotes-self, IsConfig-Keeps}
-use Rattle.sc_model.specs.declared.kind.Kind.TheVariants.{Identifier}
+use Rattle.std.proofs.Common.{ℕ, ◌≡◌, List, Some, get_or, refl, rules, sym, subst, ap, ◌∙◌, length, ◌&&◌, All, drop, false, is_none, map, ◌<◌}
 use Rattle.sc_model.specs.Token as model
-use Rattle.sc_base.specs.declared.id.Cond.{Cond}
-use Rattle.sc_model.specs.Sets.{Sets}
-use Rattle.sc_model.specs.declared.standard.Standard.{Standard}
-use Rattle.sc_prep.specs.Apart.{StandApart}
-use Rattle.sc_prep.specs.declared.walk.Walk.{Walk}
-use Rattle.sc_prep.specs.Expressions.{ReplacesAt}
-use Rattle.sc_prep.specs.Stages.{AskedHas, StopsStage}
-use Rattle.sc_prep.proofs.Stages.{no-memory, text-then}
-use Rattle.sc_prep.specs.Printable.{IsPlaced}
-use Rattle.sc_prep.specs.Simulates.{SimulatesOneOf}
 use Rattle.sc_prep.proofs.ApartLemmas.{apart-drop}
 use Rattle.sc_prep.proofs.DirectiveStops.{name-stops, part-stops}
 use Rattle.sc_prep.proofs.ExpressionMoves.{decides-by, decides-none}
 use Rattle.sc_prep.proofs.ExpressionSteps.{asking-long, hash-line}
+use Rattle.sc_prep.proofs.Facts.{All-drop, All-get_or, Denotes-self, Extends-trans, IfErr-weaker, IfOk-weaker, IsConfig-Keeps, IsTable-Keeps, Keeps-trans, drop-map}
+use Rattle.sc_prep.proofs.Stages.{no-memory, text-then}
+use Rattle.sc_prep.proofs.Terms.{AskedHas, Cond, Expression, Identifier, IsHeld, IsPlaced, ReplacesAt, Sets, SimulatesOneOf, StandApart, Standard, StopsBy, StopsStage, Token, Walk, behind_name, items_at, seen, seen_line, test_of}
 use Rattle.sc_prep.proofs.WalkMoves.{owns-kept}
-use Rattle.sc_table.proofs.Growth.{IsTable-Keeps}
 use Rattle.sc_prep.proofs.walk.Walk.decide_expression.Goals as goal
 
 -- what stands past the last token

@@ -1,24 +1,12 @@
 use Rattle.std.proofs.Common.{◌&&◌, [], ◌∷◌, false, ◌<◌, ◌∙◌, get_or, is_none, length, refl, sym}
-use Rattle.std.proofs.lemmas.List.Elements.{All-cons, All-get_or, All-nil}
-use Rattle.sc_base.proofs.Growth.{Extends-refl}
 use Rattle.sc_base.specs.declared.fault.Fault.{Fault}
-use Rattle.sc_base.specs.declared.token.Token.{Token}
-use Rattle.sc_base.specs.Seen.{seen, text_at}
-use Rattle.sc_lines.specs.Nests.{seen_line}
-use Rattle.sc_model.proofs.SetLemmas.{Denotes-Keeps, Denotes-self, IsConfig-Keeps, Keeps-trans}
-use Rattle.sc_model.specs.declared.cause.Cause.TheVariants.{BadDirective}
-use Rattle.sc_model.specs.declared.kind.Kind.TheVariants.{Identifier}
-use Rattle.sc_model.specs.Sets.{IsCond}
-use Rattle.sc_prep.specs.Expressions.{DecidesAt}
-use Rattle.sc_prep.specs.Machine.{is_taken}
-use Rattle.sc_prep.specs.Printable.{IsPlaced}
 use Rattle.sc_prep.proofs.ExpressionMoves.{decides-none}
 use Rattle.sc_prep.proofs.ExpressionSteps.{hash-line}
+use Rattle.sc_prep.proofs.Facts.{All-cons, All-get_or, All-nil, Denotes-Keeps, Denotes-self, Extends-refl, IsConfig-Keeps, IsTable-Keeps, Keeps-trans, macros_at-Keeps}
 use Rattle.sc_prep.proofs.NameSteps.{decides-by-name, refuses-no-name}
 use Rattle.sc_prep.proofs.StageRefusals.{refused-stage}
+use Rattle.sc_prep.proofs.Terms.{BadDirective, DecidesAt, Identifier, IsCond, IsPlaced, Token, is_taken, macros_at, seen, seen_line, text_at}
 use Rattle.sc_prep.proofs.WalkMoves.{same-macros, still-after}
-use Rattle.sc_table.proofs.Growth.{IsTable-Keeps, macros_at-Keeps}
-use Rattle.sc_table.specs.Table.{macros_at}
 use Rattle.sc_prep.proofs.walk.Walk.decide_name.Goals as goal
 
 -- what stands past the last token

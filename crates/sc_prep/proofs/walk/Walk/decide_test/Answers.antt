@@ -1,8 +1,7 @@
 use Rattle.std.proofs.Common.{Some, ap, ◌∙◌}
-use Rattle.std.proofs.lemmas.Result.{IfErr-weaker, IfOk-weaker}
-use Rattle.sc_lines.specs.Nests.{seen_line}
+use Rattle.sc_prep.proofs.Facts.{IfErr-weaker, IfOk-weaker}
 use Rattle.sc_prep.proofs.Stages.{no-memory}
-use Rattle.sc_prep.specs.Stages.{AskedHas}
+use Rattle.sc_prep.proofs.Terms.{AskedHas, seen_line}
 use Rattle.sc_prep.proofs.walk.Walk.decide_test.Goals as goal
 
 pub returns-in-Defined-clause-decides : goal.returns-in-Defined-clause-decides

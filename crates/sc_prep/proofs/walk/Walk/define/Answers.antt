@@ -1,13 +1,8 @@
-use Rattle.std.proofs.Common.{◌∙◌, ap, sym, subst}
-use Rattle.std.proofs.lemmas.List.{drop-map}
-use Rattle.std.proofs.lemmas.Result.{on_ok_weaker}
-use Rattle.std.specs.Prelude.{Ok}
+use Rattle.std.proofs.Common.{◌∙◌, ap, sym, subst, Ok}
 use Rattle.c11_directives.specs.declared.directive.Directive.TheVariants as kind
-use Rattle.c11_macros.specs.Defines.{reads}
-use Rattle.sc_base.specs.Seen.{seen}
-use Rattle.sc_lines.specs.Nests.{seen_line}
 use Rattle.sc_macro.specs.Reads.{Refuses, seen_defined}
-use Rattle.sc_prep.specs.Machine.{changed_by, changing, defined_as, refusing}
+use Rattle.sc_prep.proofs.Facts.{drop-map, on_ok_weaker}
+use Rattle.sc_prep.proofs.Terms.{changed_by, changing, defined_as, reads, refusing, seen, seen_line}
 use Rattle.sc_prep.proofs.WalkMoves.{between-as, between-runs}
 use Rattle.sc_prep.proofs.walk.Walk.define.Goals as goal
 

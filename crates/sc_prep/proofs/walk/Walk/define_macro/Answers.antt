@@ -1,5 +1,5 @@
-use Rattle.sc_model.proofs.SetLemmas.{Keeps-trans}
 use Rattle.sc_macro.specs.Reads.{seen_defined}
+use Rattle.sc_prep.proofs.Facts.{Keeps-trans}
 use Rattle.sc_prep.proofs.WalkMoves.{same-owns, defines}
 use Rattle.sc_prep.proofs.walk.Walk.define_macro.Goals as goal
 

@@ -1,5 +1,5 @@
 use Rattle.std.proofs.Common.{refl}
-use Rattle.sc_model.proofs.SetLemmas.{Denotes-self}
+use Rattle.sc_prep.proofs.Facts.{Denotes-self}
 use Rattle.sc_prep.proofs.WalkMoves.{owns-innermost, ends}
 use Rattle.sc_prep.proofs.walk.Walk.end_section.Goals as goal
 

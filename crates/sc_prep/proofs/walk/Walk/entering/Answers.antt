@@ -1,9 +1,7 @@
 use Rattle.std.proofs.Common.{◌&&◌, not, subst}
-use Rattle.sc_base.specs.Seen.{text_at}
-use Rattle.sc_model.proofs.SetLemmas.{Denotes-self}
-use Rattle.sc_model.specs.Sets.{Denotes}
+use Rattle.sc_prep.proofs.Facts.{Denotes-self}
 use Rattle.sc_prep.proofs.OnceLemmas.{entering-as}
-use Rattle.sc_prep.specs.Once.{once_at}
+use Rattle.sc_prep.proofs.Terms.{Denotes, once_at, text_at}
 use Rattle.sc_prep.proofs.walk.Walk.entering.Goals as goal
 
 pub returns-clause-entering : goal.returns-clause-entering

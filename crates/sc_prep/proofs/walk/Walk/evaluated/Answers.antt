@@ -1,22 +1,12 @@
-use Rattle.std.proofs.Common.{◌≡◌, ◌∙◌, List, length, rules, sym, subst}
-use Rattle.std.proofs.lemmas.List.Elements.{All-weaker}
-use Rattle.std.specs.Prelude.{◌&&◌, ◌<◌, is_none, map}
-use Rattle.sc_base.proofs.Growth.{Extends-refl}
+use Rattle.std.proofs.Common.{◌≡◌, ◌∙◌, List, length, rules, sym, subst, ◌&&◌, ◌<◌, is_none, map}
 use Rattle.sc_base.specs.declared.fault.Fault.{Fault}
-use Rattle.sc_base.specs.Seen.{seen, seen_place}
-use Rattle.sc_expand.specs.Stops.{StopsBy}
-use Rattle.sc_guarded.specs.Items.{items_at}
 use Rattle.sc_if.proofs.LineAnswers.{refuses-before}
-use Rattle.sc_if.specs.Parts.{RefusesAt}
-use Rattle.sc_model.proofs.SetLemmas.{IsConfig-Keeps, Keeps-trans, Denotes-self}
-use Rattle.sc_prep.specs.Closes.{RefusesEach}
-use Rattle.sc_prep.specs.Expressions.{EvaluatesAt}
-use Rattle.sc_prep.specs.Stages.{is_asked}
 use Rattle.sc_prep.proofs.ExpressionMoves.{evaluates-at}
+use Rattle.sc_prep.proofs.Facts.{All-weaker, Denotes-self, Extends-refl, IsConfig-Keeps, IsTable-Keeps, Keeps-trans, macros_at-Keeps}
 use Rattle.sc_prep.proofs.PartFootprints.{parts-stop}
 use Rattle.sc_prep.proofs.StageRefusals.{refused-stage}
+use Rattle.sc_prep.proofs.Terms.{EvaluatesAt, RefusesAt, RefusesEach, StopsBy, is_asked, items_at, seen, seen_place}
 use Rattle.sc_prep.proofs.WalkMoves.{owns-kept}
-use Rattle.sc_table.proofs.Growth.{IsTable-Keeps, macros_at-Keeps}
 use Rattle.sc_prep.proofs.walk.Walk.evaluated.Goals as goal
 
 pub decide-requires-clause-own : goal.decide-requires-clause-own

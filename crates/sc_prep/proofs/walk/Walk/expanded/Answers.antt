@@ -1,24 +1,13 @@
-use Rattle.std.proofs.Common.{◌≡◌, List, rules, subst, ◌∙◌}
-use Rattle.c11_directives.specs.Footprints.{NameHas}
+use Rattle.std.proofs.Common.{◌≡◌, List, rules, subst, ◌∙◌, ◌&&◌, true, is_none, map}
 use Rattle.sc_base.specs.declared.fault.Fault.{Fault}
-use Rattle.sc_base.specs.Seen.{seen}
-use Rattle.sc_expand.proofs.FootprintLemmas.{expand-stops}
-use Rattle.sc_expand.specs.Stops.{StopsBy}
-use Rattle.sc_guarded.specs.Items.{items_at}
-use Rattle.std.specs.Prelude.{◌&&◌, true, is_none, map}
-use Rattle.sc_model.proofs.SetLemmas.{Keeps-trans, Denotes-self, IsConfig-Keeps}
-use Rattle.sc_prep.specs.Closes.{RefusesEach}
-use Rattle.sc_prep.specs.Apart.{AreDifferent}
-use Rattle.sc_prep.specs.Expressions.{ExpandsAt}
-use Rattle.sc_prep.specs.Footprints.{StopsWalk, any_machine}
+use Rattle.sc_if.proofs.AlikeReplacing.{AreAlike-Keeps}
+use Rattle.sc_prep.proofs.ExpandedBefore.{define-alike, text-expands}
 use Rattle.sc_prep.proofs.ExpressionMoves.{expands-at}
+use Rattle.sc_prep.proofs.Facts.{Denotes-self, IsConfig-Keeps, IsTable-Keeps, Keeps-trans, expand-stops, macros_at-Keeps}
 use Rattle.sc_prep.proofs.NameStops.{list-stops}
 use Rattle.sc_prep.proofs.StageRefusals.{refused-stage}
+use Rattle.sc_prep.proofs.Terms.{AreDifferent, ExpandsAt, NameHas, RefusesEach, StopsBy, StopsWalk, any_machine, items_at, macros_at, seen}
 use Rattle.sc_prep.proofs.WalkMoves.{owns-kept}
-use Rattle.sc_table.proofs.Growth.{IsTable-Keeps, macros_at-Keeps}
-use Rattle.sc_table.specs.Table.{macros_at}
-use Rattle.sc_prep.proofs.ExpandedBefore.{define-alike, text-expands}
-use Rattle.sc_if.proofs.AlikeReplacing.{AreAlike-Keeps}
 use Rattle.sc_prep.proofs.walk.Walk.expanded.Goals as goal
 
 pub expand-requires-clause-table : goal.expand-requires-clause-table

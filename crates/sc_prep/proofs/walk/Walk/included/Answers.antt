@@ -1,30 +1,13 @@
-use Rattle.std.proofs.Common.{rules, ◌≡◌, ◌∙◌, ◌<◌, All, List, ℕ, arith, length, map, sym, ap, subst}
-use Rattle.std.proofs.lemmas.List.Elements.{All-weaker}
-use Rattle.std.proofs.lemmas.Result.{IfErr-weaker}
-use Rattle.std.specs.Prelude.{string_bytes}
-use Rattle.sc_base.proofs.Growth.{Extends-refl, Extends-trans}
-use Rattle.sc_base.specs.Seen.{text_at}
-use Rattle.sc_lines.specs.Nests.{seen_line}
-use Rattle.sc_model.proofs.SetLemmas.{Keeps-trans}
-use Rattle.sc_model.specs.Sets.{IsCond}
+use Rattle.std.proofs.Common.{rules, ◌≡◌, ◌∙◌, ◌<◌, All, List, ℕ, arith, length, map, sym, ap, subst, string_bytes}
 use Rattle.sc_prep.proofs.Contents.{IsPlaced-later, contents-later}
 use Rattle.sc_prep.proofs.ExpressionMoves.{empty_context}
+use Rattle.sc_prep.proofs.Facts.{All-weaker, Extends-refl, Extends-trans, IfErr-weaker, IsTable-Extends, IsTable-Keeps, Keeps-trans}
 use Rattle.sc_prep.proofs.IncludeLeads.{parts-later}
 use Rattle.sc_prep.proofs.LeadMoves.{contents-stay, limit-stops, stored-ready}
 use Rattle.sc_prep.proofs.NamedFiles.{deep-leads, found-leads, has-hash, held-later, reading-stops, sound-plain}
-use Rattle.sc_prep.proofs.WalkMoves.{owns-kept}
-use Rattle.sc_prep.specs.declared.including.Part.{Part}
-use Rattle.sc_prep.specs.declared.naming.Named.{Named}
-use Rattle.sc_prep.specs.Finding.{AreFound}
-use Rattle.sc_prep.specs.Includes.{Finds, files_at}
-use Rattle.sc_prep.specs.Naming.{ArePlainNames}
-use Rattle.sc_prep.specs.Preprocesses.{ReadsNothing, Stops}
-use Rattle.sc_prep.specs.Printable.{ArePlainPaths, IsPlaced, any_token}
-use Rattle.sc_prep.specs.Simulates.{IsIn, Leads}
-use Rattle.sc_table.proofs.Growth.{IsTable-Extends, IsTable-Keeps}
-use Rattle.sc_prep.specs.Footprints.{StopsAtPlace}
 use Rattle.sc_prep.proofs.Stopping.{reading-stops-nowhere}
-use Rattle.sc_model.specs.declared.standard.Standard.TheVariants.{C11}
+use Rattle.sc_prep.proofs.Terms.{AreFound, ArePlainNames, ArePlainPaths, C11, Finds, IsCond, IsIn, IsPlaced, Leads, Named, Part, ReadsNothing, Stops, StopsAtPlace, any_token, files_at, seen_line, text_at}
+use Rattle.sc_prep.proofs.WalkMoves.{owns-kept}
 use Rattle.sc_prep.proofs.walk.Walk.included.Goals as goal
 
 -- ---- the headers are named

@@ -1,10 +1,9 @@
 use Rattle.std.proofs.Common.{◌∙◌, sym, subst, length}
-use Rattle.std.proofs.lemmas.Result.{IfErr-weaker, on_ok_weaker}
-use Rattle.sc_prep.specs.Printable.{AllPass, is_plain}
-use Rattle.sc_prep.proofs.CloseMoves.{plain-grown}
-use Rattle.sc_prep.proofs.TakeLine.{conditional-found, takes-decided}
-use Rattle.sc_prep.specs.Apart.{tokens_in}
 use Rattle.sc_prep.proofs.ApartLemmas.{apart-right, gathers-same}
+use Rattle.sc_prep.proofs.CloseMoves.{plain-grown}
+use Rattle.sc_prep.proofs.Facts.{IfErr-weaker, on_ok_weaker}
+use Rattle.sc_prep.proofs.TakeLine.{conditional-found, takes-decided}
+use Rattle.sc_prep.proofs.Terms.{AllPass, is_plain, tokens_in}
 use Rattle.sc_prep.proofs.walk.Walk.local_line.Goals as goal
 
 pub conditional_line-requires-clause-directive : goal.conditional_line-requires-clause-directive

@@ -1,19 +1,12 @@
 use Rattle.std.proofs.Common.{◌≡◌, ◌+◌, List, length, sym, subst, true, rules}
-use Rattle.sc_base.specs.declared.token.Token.{Token}
-use Rattle.sc_base.specs.Seen.{IsHeld}
-use Rattle.sc_expand.specs.Stops.{StopsBy}
-use Rattle.sc_model.proofs.SetLemmas.{Keeps-trans}
-use Rattle.sc_prep.specs.Alternatives.{EachToken, OwnsEach}
-use Rattle.sc_prep.specs.declared.alternatives.Alternative.{Alternative}
-use Rattle.sc_prep.specs.Naming.{AreHeaders}
 use Rattle.sc_prep.proofs.CloseMoves.{placed-grown}
-use Rattle.sc_prep.proofs.NamedFiles.{each-passes, has-hash, names-leads, said-each}
-use Rattle.sc_prep.proofs.WalkMoves.{owns-kept}
-use Rattle.sc_prep.specs.Printable.{any_token, is_plain}
-use Rattle.sc_prep.specs.Stages.{StopsSaid}
-use Rattle.sc_prep.proofs.Stages.{text-then}
 use Rattle.sc_prep.proofs.DirectiveStops.{lists-stop}
-use Rattle.sc_model.specs.declared.standard.Standard.TheVariants.{C11}
+use Rattle.sc_prep.proofs.Facts.{Keeps-trans}
+use Rattle.sc_prep.proofs.NamedFiles.{each-passes, has-hash, names-leads, said-each}
+use Rattle.sc_prep.proofs.Stages.{text-then}
+use Rattle.sc_prep.proofs.Terms.{AreHeaders, C11, EachToken, IsHeld, OwnsEach, StopsBy, StopsSaid, Token, any_token, is_plain}
+use Rattle.sc_prep.proofs.WalkMoves.{owns-kept}
+use Rattle.sc_prep.specs.declared.alternatives.Alternative.{Alternative}
 use Rattle.sc_prep.proofs.walk.Walk.named.Goals as goal
 
 pub returns-clause-named : goal.returns-clause-named

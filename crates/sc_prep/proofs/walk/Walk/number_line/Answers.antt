@@ -1,23 +1,14 @@
 use Rattle.std.proofs.Common.{◌+◌, not, Bool, false, List, [], get_or, length, map, sym, subst, rules}
-use Rattle.std.specs.List.{list_any}
-use Rattle.c11_directives.specs.Behind.{is_numbering}
-use Rattle.sc_base.specs.declared.token.Token.{Token}
-use Rattle.sc_base.specs.Seen.{IsHeld, seen}
-use Rattle.sc_expand.specs.Stops.{StopsBy}
-use Rattle.sc_model.proofs.SetLemmas.{Keeps-trans}
-use Rattle.sc_model.specs.declared.kind.Kind.TheVariants.{Identifier}
-use Rattle.sc_model.specs.Sets.{Denotes}
-use Rattle.sc_prep.specs.Alternatives.{EachToken, OwnsEach, tokens_in}
-use Rattle.sc_prep.specs.Printable.{any_token}
 use Rattle.sc_prep.proofs.CloseMoves.{placed-grown}
+use Rattle.sc_prep.proofs.DirectiveStops.{lists-stop}
 use Rattle.sc_prep.proofs.ExpressionSteps.{hash-line}
+use Rattle.sc_prep.proofs.Facts.{Keeps-trans}
 use Rattle.sc_prep.proofs.LineSteps.{line-grown}
 use Rattle.sc_prep.proofs.NumberMoves.{line-numbered}
 use Rattle.sc_prep.proofs.Stages.{text-then}
+use Rattle.sc_prep.proofs.Terms.{C11, Denotes, Identifier, IsHeld, StopsBy, StopsSaid, Token, any_token, is_numbering, list_any, seen}
 use Rattle.sc_prep.proofs.WalkMoves.{owns-kept}
-use Rattle.sc_prep.specs.Stages.{StopsSaid}
-use Rattle.sc_prep.proofs.DirectiveStops.{lists-stop}
-use Rattle.sc_model.specs.declared.standard.Standard.TheVariants.{C11}
+use Rattle.sc_prep.specs.Alternatives.{EachToken, OwnsEach, tokens_in}
 use Rattle.sc_prep.proofs.walk.Walk.number_line.Goals as goal
 
 -- what stands past the last token

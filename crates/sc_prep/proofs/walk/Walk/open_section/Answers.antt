@@ -1,15 +1,9 @@
-use Rattle.std.proofs.Common.{ap, length, rules}
-use Rattle.std.proofs.lemmas.List.Elements.{All-nil}
-use Rattle.sc_model.proofs.SetLemmas.{Keeps-trans, Denotes-self}
-use Rattle.sc_lines.specs.Nests.{seen_line}
-use Rattle.c11_directives.specs.Footprints.{MomentsHave}
-use Rattle.c11_directives.specs.Lines.{test_in}
-use Rattle.sc_prep.specs.Printable.{IsPlaced, any_token}
-use Rattle.sc_prep.proofs.ExpressionMoves.{empty_context, section-opened}
-use Rattle.std.specs.Prelude.{[]}
-use Rattle.sc_prep.specs.Footprints.{Comes, ComesAt, StopsAtPlace, any_machine}
-use Rattle.sc_prep.proofs.Stages.{stage-stops, text-then}
+use Rattle.std.proofs.Common.{ap, length, rules, []}
 use Rattle.sc_prep.proofs.DirectiveStops.{opening-stops}
+use Rattle.sc_prep.proofs.ExpressionMoves.{empty_context, section-opened}
+use Rattle.sc_prep.proofs.Facts.{All-nil, Denotes-self, Keeps-trans}
+use Rattle.sc_prep.proofs.Stages.{stage-stops, text-then}
+use Rattle.sc_prep.proofs.Terms.{Comes, ComesAt, IsPlaced, MomentsHave, StopsAtPlace, any_machine, any_token, seen_line, test_in}
 use Rattle.sc_prep.proofs.walk.Walk.open_section.Goals as goal
 
 pub decide_test-requires-clause-line : goal.decide_test-requires-clause-line

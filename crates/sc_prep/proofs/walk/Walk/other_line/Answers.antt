@@ -1,7 +1,5 @@
-use Rattle.std.proofs.Common.{sym}
-use Rattle.std.specs.Prelude.{Some}
-use Rattle.sc_lines.specs.Nests.{seen_line}
-use Rattle.sc_prep.specs.Machine.{plain_by, refusing}
+use Rattle.std.proofs.Common.{sym, Some}
+use Rattle.sc_prep.proofs.Terms.{plain_by, refusing, seen_line}
 use Rattle.sc_prep.proofs.WalkMoves.{refused-as, step-as, unchanged-by}
 use Rattle.sc_prep.proofs.walk.Walk.other_line.Goals as goal
 

@@ -1,11 +1,9 @@
-use Rattle.std.proofs.Common.{ap, sym}
-use Rattle.std.proofs.lemmas.Result.{on_ok_weaker}
-use Rattle.std.specs.Prelude.{Some}
+use Rattle.std.proofs.Common.{ap, sym, Some}
 use Rattle.c11_directives.specs.declared.directive.Directive.TheVariants as kind
-use Rattle.sc_lines.specs.Nests.{seen_line}
-use Rattle.sc_prep.specs.Machine.{changed_by, changing, plain_by}
-use Rattle.sc_prep.proofs.WalkMoves.{between-as, between-runs}
 use Rattle.sc_prep.proofs.ApartLemmas.{gathers-same}
+use Rattle.sc_prep.proofs.Facts.{on_ok_weaker}
+use Rattle.sc_prep.proofs.Terms.{changed_by, changing, plain_by, seen_line}
+use Rattle.sc_prep.proofs.WalkMoves.{between-as, between-runs}
 use Rattle.sc_prep.proofs.walk.Walk.plain_directive.Goals as goal
 
 pub returns-in-Define-clause-moved : goal.returns-in-Define-clause-moved

@@ -1,5 +1,5 @@
 use Rattle.std.proofs.Common.{sym}
-use Rattle.std.proofs.lemmas.Result.{on_ok_weaker}
+use Rattle.sc_prep.proofs.Facts.{on_ok_weaker}
 use Rattle.sc_prep.proofs.OnceMoves.{marks, passes}
 use Rattle.sc_prep.proofs.walk.Walk.pragma.Goals as goal
 

@@ -1,15 +1,9 @@
 use Rattle.std.proofs.Common.{refl, ◌≡◌, ◌∙◌, ◌++◌, sym, ap, subst, length, take, arith}
-use Rattle.std.proofs.Math.Seq.{take-length}
-use Rattle.sc_prep.specs.declared.walk.Walk.{Walk}
-use Rattle.c11_directives.specs.Pre.{with_text}
-use Rattle.sc_prep.specs.Machine.{acting}
-use Rattle.sc_prep.specs.Simulates.{SimulatesStep}
-use Rattle.sc_lines.specs.Nests.{seen_line}
-use Rattle.sc_prep.specs.Printable.{AreHeld, IsHeldWalk}
 use Rattle.sc_prep.proofs.ApartLemmas.{gathers-line, gathers-same}
+use Rattle.sc_prep.proofs.Facts.{take-length, under}
 use Rattle.sc_prep.proofs.Held.{gathered-held}
+use Rattle.sc_prep.proofs.Terms.{AreHeld, IsHeldWalk, SimulatesStep, Walk, acting, seen_line, with_text}
 use Rattle.sc_prep.proofs.WalkMoves.{puts, puts-none}
-use Rattle.sc_guarded.proofs.ItemLemmas.{under}
 use Rattle.sc_prep.proofs.walk.Walk.put.Goals as goal
 
 pub returns-clause-moved : goal.returns-clause-moved

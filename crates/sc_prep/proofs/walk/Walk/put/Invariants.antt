@@ -1,5 +1,5 @@
 use Rattle.std.proofs.Common.{◌≡◌, ◌++◌, take}
-use Rattle.sc_guarded.proofs.ItemLemmas.{under}
+use Rattle.sc_prep.proofs.Facts.{under}
 use Rattle.sc_prep.proofs.walk.Walk.put.Given as goal
 
 abbrev pub invariant-loop-token : goal.invariant-loop-token

@@ -1,12 +1,8 @@
 use Rattle.std.proofs.Common.{ℕ, ◌&&◌, not, Bool, List, All, refl, sym, subst}
 use Rattle.sc_base.specs.declared.fault.Fault.{Fault}
-use Rattle.sc_base.specs.declared.id.Cond.{Cond}
-use Rattle.sc_base.specs.declared.token.Token.{Token}
-use Rattle.sc_model.proofs.SetLemmas.{Keeps-trans, IsConfig-Keeps, Denotes-self, Denotes-Keeps}
-use Rattle.sc_model.specs.Sets.{IsCond}
-use Rattle.sc_prep.specs.Closes.{IsWithin, RefusesEach, has_none}
-use Rattle.sc_prep.specs.declared.walk.Walk.{Walk}
+use Rattle.sc_prep.proofs.Facts.{Denotes-Keeps, Denotes-self, IsConfig-Keeps, Keeps-trans}
 use Rattle.sc_prep.proofs.RunLemmas.{puts-out, within-as, within-later}
+use Rattle.sc_prep.proofs.Terms.{Cond, IsCond, IsWithin, RefusesEach, Token, Walk, has_none}
 use Rattle.sc_prep.proofs.walk.Walk.put_out.Goals as goal
 
 pub returns-in_err-open-clause-keeps : goal.returns-in_err-open-clause-keeps

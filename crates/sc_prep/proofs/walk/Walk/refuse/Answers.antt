@@ -1,15 +1,7 @@
 use Rattle.std.proofs.Common.{ap, false, sym, subst, drop, get_or}
-use Rattle.std.proofs.Math.Seq.{drop-cons}
-use Rattle.std.proofs.lemmas.List.Elements.{All-get_or}
-use Rattle.std.proofs.lemmas.Result.{on_ok_weaker}
-use Rattle.sc_base.specs.declared.token.Token.{Token}
-use Rattle.sc_model.specs.declared.kind.Kind.TheVariants.{Identifier}
-use Rattle.sc_prep.specs.Machine.{refusing_if}
-use Rattle.sc_prep.specs.Printable.{IsPlaced}
-use Rattle.sc_prep.specs.Simulates.{SimulatesStep}
-use Rattle.sc_lines.specs.Nests.{seen_line}
-use Rattle.sc_prep.specs.declared.walk.Walk.{Walk}
+use Rattle.sc_prep.proofs.Facts.{All-get_or, drop-cons, on_ok_weaker}
 use Rattle.sc_prep.proofs.Held.{refused-held}
+use Rattle.sc_prep.proofs.Terms.{Identifier, IsPlaced, SimulatesStep, Token, Walk, refusing_if, seen_line}
 use Rattle.sc_prep.proofs.WalkMoves.{refuses, refuses-none}
 use Rattle.sc_prep.proofs.walk.Walk.refuse.Goals as goal
 

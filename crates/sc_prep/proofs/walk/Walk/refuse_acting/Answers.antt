@@ -1,7 +1,5 @@
-use Rattle.std.proofs.Common.{sym, ap}
-use Rattle.std.proofs.lemmas.Result.{on_ok_weaker}
-use Rattle.std.specs.Prelude.{◌&&◌}
-use Rattle.sc_model.proofs.SetLemmas.{Denotes-self, IsConfig-kept}
+use Rattle.std.proofs.Common.{sym, ap, ◌&&◌}
+use Rattle.sc_prep.proofs.Facts.{Denotes-self, IsConfig-kept, on_ok_weaker}
 use Rattle.sc_prep.proofs.RunLemmas.{denotes-as}
 use Rattle.sc_prep.proofs.WalkMoves.{step-kept}
 use Rattle.sc_prep.proofs.walk.Walk.refuse_acting.Goals as goal

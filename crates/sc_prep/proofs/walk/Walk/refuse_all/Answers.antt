@@ -1,6 +1,5 @@
 use Rattle.std.proofs.Common.{true}
-use Rattle.std.proofs.lemmas.Result.{on_ok_weaker}
-use Rattle.sc_model.proofs.SetLemmas.{Denotes-self}
+use Rattle.sc_prep.proofs.Facts.{Denotes-self, on_ok_weaker}
 use Rattle.sc_prep.proofs.walk.Walk.refuse_all.Goals as goal
 
 pub returns-clause-moved : goal.returns-clause-moved

@@ -1,11 +1,8 @@
 use Rattle.std.proofs.Common.{[], sym, subst, take}
-use Rattle.std.proofs.lemmas.List.{take_more}
-use Rattle.std.proofs.lemmas.List.Elements.{All-nil, All-cons, All-get_or}
 use Rattle.sc_base.specs.declared.fault.Fault.{Fault}
-use Rattle.sc_model.proofs.SetLemmas.{Keeps-refl, Keeps-trans}
-use Rattle.sc_model.specs.Sets.{IsCond}
-use Rattle.sc_prep.specs.Closes.{RefusesEach}
+use Rattle.sc_prep.proofs.Facts.{All-cons, All-get_or, All-nil, Keeps-refl, Keeps-trans, take_more}
 use Rattle.sc_prep.proofs.RunLemmas.{refuses-nothing, refuses-then}
+use Rattle.sc_prep.proofs.Terms.{IsCond, RefusesEach}
 use Rattle.sc_prep.proofs.walk.Walk.refuse_each.Goals as goal
 
 pub loop-fault-init : goal.loop-fault-init

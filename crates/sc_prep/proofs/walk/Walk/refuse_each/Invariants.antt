@@ -1,6 +1,5 @@
 use Rattle.std.proofs.Common.{take}
-use Rattle.sc_model.specs.Sets.{Keeps}
-use Rattle.sc_prep.specs.Closes.{RefusesEach}
+use Rattle.sc_prep.proofs.Terms.{Keeps, RefusesEach}
 use Rattle.sc_prep.proofs.walk.Walk.refuse_each.Given as goal
 
 abbrev pub invariant-loop-fault : goal.invariant-loop-fault

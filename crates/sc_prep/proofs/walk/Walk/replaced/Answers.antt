@@ -1,19 +1,10 @@
-use Rattle.std.proofs.Common.{◌≡◌, List, length, sym, subst, ◌∙◌}
-use Rattle.std.proofs.lemmas.List.Elements.{All-weaker}
-use Rattle.std.specs.Prelude.{◌&&◌, is_none, map, ◌<◌}
+use Rattle.std.proofs.Common.{◌≡◌, List, length, sym, subst, ◌∙◌, ◌&&◌, is_none, map, ◌<◌}
 use Rattle.sc_base.specs.declared.fault.Fault.{Fault}
-use Rattle.sc_base.specs.declared.token.Token.{Token}
-use Rattle.sc_base.specs.Seen.{seen, seen_place}
-use Rattle.sc_guarded.specs.Items.{items_at}
-use Rattle.sc_model.proofs.SetLemmas.{Keeps-trans, Denotes-self, IsConfig-Keeps}
-use Rattle.sc_prep.specs.Closes.{RefusesEach}
-use Rattle.sc_prep.specs.Expressions.{ReplacesAt}
-use Rattle.sc_prep.specs.Printable.{IsPlaced}
-use Rattle.sc_prep.specs.declared.walk.Walk.{Walk}
 use Rattle.sc_prep.proofs.ExpressionMoves.{replaces-at}
+use Rattle.sc_prep.proofs.Facts.{All-weaker, Denotes-self, IsConfig-Keeps, IsTable-Keeps, Keeps-trans, macros_at-Keeps}
 use Rattle.sc_prep.proofs.StageRefusals.{refused-stage}
+use Rattle.sc_prep.proofs.Terms.{IsPlaced, RefusesEach, ReplacesAt, Token, Walk, items_at, seen, seen_place}
 use Rattle.sc_prep.proofs.WalkMoves.{owns-kept}
-use Rattle.sc_table.proofs.Growth.{IsTable-Keeps, macros_at-Keeps}
 use Rattle.sc_prep.proofs.walk.Walk.replaced.Goals as goal
 
 pub replace_defined-requires-clause-table : goal.replace_defined-requires-clause-table

@@ -1,16 +1,9 @@
-use Rattle.std.proofs.Common.{◌≡◌, ℕ, Bool, List, drop, map, refl, sym, ap, ◌∙◌}
-use Rattle.std.proofs.lemmas.List.{drop-map}
-use Rattle.std.proofs.lemmas.Result.{IfErr-weaker, IfOk-weaker}
-use Rattle.std.specs.Prelude.{false, true, length}
-use Rattle.c11_directives.specs.Behind.{begins_with_header, behind_name}
-use Rattle.sc_base.specs.declared.token.Token.{Token}
-use Rattle.sc_base.specs.Seen.{seen}
-use Rattle.sc_guarded.specs.Items.{items_at}
-use Rattle.sc_lines.specs.Nests.{seen_line}
+use Rattle.std.proofs.Common.{◌≡◌, ℕ, Bool, List, drop, map, refl, sym, ap, ◌∙◌, false, true, length}
 use Rattle.sc_model.specs.Token as model
-use Rattle.sc_model.specs.declared.standard.Standard.{Standard}
-use Rattle.sc_prep.proofs.SaidMoves.{expands-to, list-is, list-own, list-placed, stands}
 use Rattle.sc_prep.proofs.DirectiveStops.{behind-different, header-stops, name-said-stops, said-stops}
+use Rattle.sc_prep.proofs.Facts.{IfErr-weaker, IfOk-weaker, drop-map}
+use Rattle.sc_prep.proofs.SaidMoves.{expands-to, list-is, list-own, list-placed, stands}
+use Rattle.sc_prep.proofs.Terms.{Standard, Token, begins_with_header, behind_name, items_at, seen, seen_line}
 use Rattle.sc_prep.proofs.walk.Walk.said.Goals as goal
 
 -- what stands behind the name was tested

@@ -1,11 +1,7 @@
 use Rattle.std.proofs.Common.{Option, refl, subst}
-use Rattle.std.specs.Option.{IfSome}
-use Rattle.sc_base.proofs.Growth.{Extends-refl}
-use Rattle.sc_model.proofs.SetLemmas.{Keeps-trans}
+use Rattle.sc_prep.proofs.Facts.{Extends-refl, Keeps-trans}
 use Rattle.sc_prep.proofs.SettleMoves.{settled-closes, settled-stage, stage-stored, stays-stage}
-use Rattle.sc_prep.specs.declared.settling.Early.{Early}
-use Rattle.sc_prep.specs.Settles.{SettlesList}
-use Rattle.sc_table.specs.Table.{macros_at}
+use Rattle.sc_prep.proofs.Terms.{Early, IfSome, SettlesList, macros_at}
 use Rattle.sc_prep.proofs.walk.Walk.settle_runs.Goals as goal
 
 pub returns-then-is_never-clause-stays : goal.returns-then-is_never-clause-stays

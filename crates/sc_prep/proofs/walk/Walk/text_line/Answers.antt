@@ -1,9 +1,7 @@
 use Rattle.std.proofs.Common.{ap, refl, sym}
-use Rattle.std.proofs.lemmas.Result.{on_ok_weaker}
-use Rattle.c11_directives.specs.Pre.{with_text}
-use Rattle.sc_lines.specs.Nests.{seen_line}
-use Rattle.sc_prep.specs.Machine.{acting, plain_by}
 use Rattle.sc_prep.proofs.ApartLemmas.{gathers-same}
+use Rattle.sc_prep.proofs.Facts.{on_ok_weaker}
+use Rattle.sc_prep.proofs.Terms.{acting, plain_by, seen_line, with_text}
 use Rattle.sc_prep.proofs.WalkMoves.{mild-stays, step-as}
 use Rattle.sc_prep.proofs.walk.Walk.text_line.Goals as goal
 

@@ -1,6 +1,6 @@
 use Rattle.std.proofs.Common.{◌∙◌, sym, ap, Some, length}
-use Rattle.sc_prep.specs.Printable.{any_token}
 use Rattle.sc_prep.proofs.TakeLine.{barrier-found, barrier-missing, stays-plain, takes-plain}
+use Rattle.sc_prep.proofs.Terms.{any_token}
 use Rattle.sc_prep.proofs.walk.Walk.unconditional_line.Goals as goal
 
 pub barrier_line-requires-clause-directive : goal.barrier_line-requires-clause-directive

@@ -1,12 +1,7 @@
-use Rattle.std.proofs.Common.{ap}
-use Rattle.std.proofs.lemmas.Result.{on_ok_weaker}
-use Rattle.std.specs.Prelude.{Some}
-use Rattle.sc_base.specs.Seen.{text_at}
-use Rattle.sc_lines.specs.Nests.{seen_line}
-use Rattle.sc_model.specs.declared.cause.Cause.TheVariants.{BadDirective}
+use Rattle.std.proofs.Common.{ap, Some}
 use Rattle.c11_directives.specs.declared.directive.Directive.TheVariants as kind
-use Rattle.c11_directives.specs.Pre.{undefined}
-use Rattle.sc_prep.specs.Machine.{changed_by, changing, refusing}
+use Rattle.sc_prep.proofs.Facts.{on_ok_weaker}
+use Rattle.sc_prep.proofs.Terms.{BadDirective, changed_by, changing, refusing, seen_line, text_at, undefined}
 use Rattle.sc_prep.proofs.WalkMoves.{between-as, between-runs}
 use Rattle.sc_prep.proofs.walk.Walk.undef.Goals as goal
 

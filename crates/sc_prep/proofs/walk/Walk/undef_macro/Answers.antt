@@ -1,5 +1,5 @@
-use Rattle.sc_model.proofs.SetLemmas.{Keeps-trans}
-use Rattle.sc_base.specs.Seen.{text_at}
+use Rattle.sc_prep.proofs.Facts.{Keeps-trans}
+use Rattle.sc_prep.proofs.Terms.{text_at}
 use Rattle.sc_prep.proofs.WalkMoves.{same-owns, undefines}
 use Rattle.sc_prep.proofs.walk.Walk.undef_macro.Goals as goal
 
