@@ -1,6 +1,6 @@
 -- One event: it is a step of the run, and what it ends has ended at an element before the place.
-use Rattle.std.proofs.Common.{◌≡◌, ℕ, zero, suc, ◌+◌, ◌<◌, ◌≤◌, ◌&&◌, Bool, true, false, List, [], ◌∷◌, ◌++◌, All, drop, length, map, slice_get, Option, Some, if◌then◌else◌, refl, sym, ap, ◌∙◌, subst, arith}
-use Rattle.std.proofs.lemmas.List.{map-append}
+use Rattle.std.proofs.Common.{◌≡◌, ℕ, zero, suc, ◌+◌, ◌<◌, ◌≤◌, ◌&&◌, Bool, true, false, List, [], ◌∷◌, ◌++◌, All, append_assoc, drop, get_or, length, map, slice_get, take, Option, Some, if◌then◌else◌, refl, sym, ap, ◌∙◌, subst, arith}
+use Rattle.std.proofs.lemmas.List.{map-append, take_more}
 use Rattle.std.proofs.lemmas.List.Elements.{All-append, All-cons, All-head, All-nil, All-tail}
 use Rattle.std.proofs.lemmas.Option.{same_Some}
 use Rattle.c11_parsing.proofs.Events.{all-left, all-row, run-stands, start-stands}
@@ -8,12 +8,15 @@ use Rattle.c11_parsing.specs.Classes.{Input, left_from, project}
 use Rattle.c11_parsing.specs.Core as core
 use Rattle.c11_parsing.specs.Core.{alone, after_event, Classified, classifies, CoreRun, CoreStep, filled, going, index_of, IsReached, IsStepped, Makes, merged, none, nothing, one, over, over_in, part, reduces, run_of, shifts, splits, Stands}
 use Rattle.c11_parsing.specs.Trees.{Condition}
-use Rattle.sc_fork.specs.Cores.{AreOver, AreRows, empty_row, event_of, full_row, IsApplied, more_over, no_rows, none_over}
+use Rattle.sc_fork.specs.Bundles.{AreApplied, event_by, events_of}
+use Rattle.sc_fork.specs.Cores.{AreOver, AreRows, empty_row, event_of, full_row, IsApplied, IsCore, more_over, no_rows, none_over}
 use Rattle.sc_fork.specs.declared.event.Event.{Event}
+use Rattle.sc_fork.specs.declared.event.Kind.{Kind}
 use Rattle.sc_fork.specs.declared.event.Event.TheVariants.{Split, Reduce, Shift, Classify, Merge}
 use Rattle.sc_fork.specs.declared.piece.Ended.{Ended}
 use Rattle.sc_fork.specs.Enabled.{Has}
 use Rattle.sc_fork.specs.Seen.{IsNext, IsSeen, next_element, next_end, next_kind, next_unknown}
+use Rattle.sc_fork.specs.View.{View}
 use Rattle.sc_merge.specs.declared.subparser.Subparser.{Subparser}
 use Rattle.sc_merge.specs.Phases.{phase_of}
 use Rattle.sc_model.specs.Sets.{IsConfig}
@@ -196,6 +199,15 @@ module _ (w : Tables) (input : Input) where
 pub run-stands-seen : (w : Tables) (input : Input) (first : core.Core) (s : Steps) (run : IsRun w input first s) → Stands input run.last
 run-stands-seen w input first s run = run-stands input first run.last (map event_of s.events.items) run.run (start-stands input first run.start)
 
+-- what has ended after one event
+pub view-ended : (w v : Tables) (input : Input) (before : View) (event : Event) (after : View) (made : List ℕ) (seen : core.Core) → IsCore w input before seen → Stands input seen
+    → IsApplied w v input before event after made seen → (place : ℕ) → IsBefore before.subparsers place event → place < length input.items + 1 → HaveEndedBefore w.sets input place before.ended
+    → HaveEndedBefore v.sets input place after.ended
+view-ended w v input before event after made seen is stands applied place low within ended =
+    seen-ended v input place after.ended applied.next.ended applied.seen_after.ended
+    (step-ends input place within seen applied.next (event_of event) applied.step stands (rows-next w input before.subparsers seen.rows is.rows)
+    (seen-before w input before.subparsers seen.rows place event is.rows low) (ended-seen w input place before.ended seen.ended is.ended ended))
+
 module _ (w v : Tables) (input : Input) (first : core.Core) (s : Steps) (event : Event) (after : Steps) (made : List ℕ) (run : IsRun w input first s)
     (applied : IsApplied w v input s.core event after.core made run.last) where
   pub event-step : IsStepTo w v input s.core event after.core
@@ -212,7 +224,32 @@ module _ (w v : Tables) (input : Input) (first : core.Core) (s : Steps) (event :
 
   pub event-ended : (place : ℕ) → IsBefore s.core.subparsers place event → place < length input.items + 1 → HaveEndedBefore w.sets input place s.core.ended
       → HaveEndedBefore v.sets input place after.core.ended
-  event-ended place before within ended =
-      seen-ended v input place after.core.ended applied.next.ended applied.seen_after.ended
-      (step-ends input place within run.last applied.next (event_of event) applied.step (run-stands-seen w input first s run) (rows-next w input s.core.subparsers run.last.rows run.is.rows)
-      (seen-before w input s.core.subparsers run.last.rows place event run.is.rows before) (ended-seen w input place s.core.ended run.last.ended run.is.ended ended))
+  event-ended = view-ended w v input s.core event after.core made run.last run.is (run-stands-seen w input first s run) applied
+
+run-append : (input : Input) (a b c : core.Core) (xs ys : List core.Event) → CoreRun input a xs b → CoreRun input b ys c → CoreRun input a (xs ++ ys) c
+run-append input a _ c _ ys nothing run = run
+run-append input a b c _ ys (after_event {event = e} {next} {events} first rest) run = after_event first (run-append input next b c events ys rest run)
+
+pub events-append : (before events after : List Event) → after ≡ before ++ events → map event_of after ≡ map event_of before ++ map event_of events
+events-append before events after is = ap (map event_of) is ∙ map-append event_of before events
+
+-- a run is one still after several events
+pub all-run : (w v : Tables) (input : Input) (first : core.Core) (s : Steps) (events : List Event) (after : Steps) (made : List ℕ) (run : IsRun w input first s)
+    → AreApplied w v input s.core events after.core made run.last → after.events.items ≡ s.events.items ++ events → IsRun v input first after
+all-run w v input first s events after made run applied is = record {
+  start = run.start;
+  last = applied.next;
+  run = subst (λ es. CoreRun input first es applied.next) (sym (events-append s.events.items events after.events.items is))
+      (run-append input first run.last applied.next (map event_of s.events.items) (map event_of events) run.run applied.run);
+  is = applied.seen_after;
+}
+
+-- the event of one member more
+pub event-pushed : (kind : Kind) (before now after : List Event) (members : List ℕ) (i : ℕ) (event : Event) → i < length members → now ≡ before ++ events_of kind (take i members)
+    → event ≡ event_by kind (get_or members i 0) → after ≡ now ++ event ∷ [] → after ≡ before ++ events_of kind (take (i + 1) members)
+event-pushed kind before now after members i event within was same is =
+    let n = get_or members i 0 in
+    let last : events_of kind (take i members) ++ event_by kind n ∷ [] ≡ events_of kind (take (i + 1) members) =
+    sym (ap (map (event_by kind)) (take_more members i 0 within) ∙ map-append (event_by kind) (take i members) (n ∷ [])) in
+    is ∙ ap (λ es. es ++ event ∷ []) was ∙ append_assoc before (events_of kind (take i members)) (event ∷ [])
+    ∙ ap (λ es. before ++ es) (ap (λ e. events_of kind (take i members) ++ e ∷ []) same ∙ last)

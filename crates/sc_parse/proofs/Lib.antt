@@ -1,4 +1,5 @@
 pub mod ClassLemmas
+pub mod DoneLemmas
 pub mod EndLemmas
 pub mod EventLemmas
 pub mod MergeLemmas

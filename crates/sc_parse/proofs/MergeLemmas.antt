@@ -63,7 +63,7 @@ times-at [] k d within = absurd (omega (arith, within))
 times-at (n ∷ ns) zero d within = omega (arith, times-head n ns)
 times-at (n ∷ ns) (suc k) d within = omega (arith, times-at ns k d (omega (arith, within)))
 
-times-two : (ns : List ℕ) (i k d : ℕ) → i < length ns → k < length ns → (i ≡ k → ⊥) → get_or ns i d ≡ get_or ns k d → 1 < times (get_or ns k d) ns
+pub times-two : (ns : List ℕ) (i k d : ℕ) → i < length ns → k < length ns → (i ≡ k → ⊥) → get_or ns i d ≡ get_or ns k d → 1 < times (get_or ns k d) ns
 times-two [] i k d one two apart e = absurd (omega (arith, one))
 times-two (n ∷ ns) zero zero d one two apart e = absurd (apart refl)
 times-two (n ∷ ns) zero (suc k) d one two apart e =

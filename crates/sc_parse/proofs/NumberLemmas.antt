@@ -67,6 +67,14 @@ has-filled rows n full = by (slice_get rows n) refl
 pub first-number : (rows : List (Option Subparser)) (n : ℕ) (ns : List ℕ) → AreNumbers rows (n ∷ ns) → (s : Subparser) × Has rows n s
 first-number rows n ns are = has-filled rows n (omega (arith, are.once n, times-head n ns))
 
+pub one-number : (rows : List (Option Subparser)) (n : ℕ) (s : Subparser) → Has rows n s → AreNumbers rows (n ∷ [])
+one-number rows n s has = record {
+  once = λ m. elim (eqb_tells m n) [
+    | inl same ↦ subst (λ k. times k (n ∷ []) ≤ filled_at rows k) (sym same.1) (omega (arith, filled rows n s has, times-head n []))
+    | inr other ↦ omega (arith, ap one_if other.0)
+  ];
+}
+
 -- with no more of each number
 pub fewer-numbers : (rows : List (Option Subparser)) (xs ys : List ℕ) → AreNumbers rows xs → ((n : ℕ) → times n ys ≤ times n xs) → AreNumbers rows ys
 fewer-numbers rows xs ys are fewer = record { once = λ n. omega (arith, are.once n, fewer n) }
@@ -87,6 +95,14 @@ each-append P rows xs ys first second = All-append (λ n. (s : Subparser) × (Ha
 pub each-then : (P Q : Subparser → Type 0) (rows : List (Option Subparser)) (ns : List ℕ) → ((s : Subparser) → P s → Q s) → Each P rows ns → Each Q rows ns
 each-then P Q rows ns by each =
     All-weaker (λ n. (s : Subparser) × (Has rows n s × P s)) (λ n. (s : Subparser) × (Has rows n s × Q s)) (λ n h. (h.0, (h.1.0, by h.0 h.1.1))) ns each
+
+pub each-both : (P Q : Subparser → Type 0) (rows : List (Option Subparser)) (ns : List ℕ) → Each P rows ns → Each Q rows ns → Each (λ s. P s × Q s) rows ns
+each-both P Q rows ns first second =
+    times-all (λ n. (s : Subparser) × (Has rows n s × (P s × Q s))) ns (λ n some.
+    let p = all-times (λ m. (s : Subparser) × (Has rows m s × P s)) ns n first some in
+    let q = all-times (λ m. (s : Subparser) × (Has rows m s × Q s)) ns n second some in
+    let same : q.0 ≡ p.0 = cc (q.1.0, p.1.0) in
+    (p.0, (p.1.0, (p.1.1, subst Q same q.1.1))))
 
 -- ---- what replaces them
 

@@ -1,15 +1,10 @@
 -- What calls do, one after the other.
-use Rattle.std.proofs.Common.{◌≡◌, ◌⊎◌, inl, inr, ℕ, ◌<◌, List, [], ◌++◌, All, length, Option, Some, None, refl, sym, ap, ◌∙◌, subst, append-nil, append_assoc}
-use Rattle.std.specs.Prelude.{IfSome, slice_get}
-use Rattle.std.specs.List.{Contains}
+use Rattle.std.proofs.Common.{◌≡◌, ℕ, ◌<◌, List, [], ◌++◌, All, length, Option, Some, None, refl, sym, ap, ◌∙◌, subst, append-nil, append_assoc}
+use Rattle.std.specs.Prelude.{IfSome}
 use Rattle.std.proofs.lemmas.Option.{get_or_from_slice_get, slice_get_within}
 use Rattle.c11_parsing.specs.Classes.{Input}
 use Rattle.c11_parsing.specs.Core as core
 use Rattle.sc_base.proofs.Growth.{Extends-refl, Extends-trans}
-use Rattle.sc_base.specs.declared.id.Cond.{Cond}
-use Rattle.sc_base.specs.declared.id.Name.{Name}
-use Rattle.sc_base.specs.declared.place.Place.{Place}
-use Rattle.sc_base.specs.declared.token.Token.{Token}
 use Rattle.sc_fork.proofs.ChoiceLemmas.{leaves-none, leaves-then}
 use Rattle.sc_fork.specs.Choices.{AddsLeaves}
 use Rattle.sc_fork.specs.declared.source.Source.{Source}
@@ -23,7 +18,7 @@ use Rattle.sc_parse.specs.declared.steps.Steps.{Steps}
 use Rattle.sc_parse.specs.Numbers.{Replaces, times}
 use Rattle.sc_parse.specs.Runs.{AreWaiting, GoesOn, IsRun, IsWaiting, OwnsSteps}
 use Rattle.sc_parse.proofs.NumberLemmas.{all-times, times-all}
-use Rattle.sc_tree.specs.Lines.{Line, leaf, OwnsBranches}
+use Rattle.sc_tree.specs.Lines.{Line, OwnsBranches}
 
 pub goes-nowhere : (sets : Sets) (lines : List Line) (place : ℕ) (s : Steps) → OwnsSteps sets (length lines) s → OwnsBranches sets lines → GoesOn sets sets lines lines place s s
 goes-nowhere sets lines place s own branches = record {

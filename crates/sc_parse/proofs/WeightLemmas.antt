@@ -1,5 +1,5 @@
 -- The weights of subparsers, and how reductions lower them.
-use Rattle.std.proofs.Common.{◌≡◌, ℕ, zero, suc, ◌+◌, ◌-◌, ◌*◌, ◌<◌, ◌≤◌, ◌&&◌, nat_lt, Bool, true, false, IsTrue, List, [], ◌∷◌, ◌++◌, All, length, drop, get_or, slice_get, option_and_then, option_map, Option, Some, None, if◌then◌else◌, refl, sym, ap, ◌∙◌, subst, arith}
+use Rattle.std.proofs.Common.{◌≡◌, ℕ, zero, suc, ◌+◌, ◌-◌, ◌*◌, ◌<◌, ◌≤◌, ◌&&◌, nat_lt, Bool, true, false, IsTrue, List, [], ◌∷◌, ◌++◌, All, length, drop, get_or, slice_get, take, option_and_then, option_map, Option, Some, None, if◌then◌else◌, refl, sym, ap, ◌∙◌, subst, arith}
 use Rattle.std.specs.Prelude.{cond, IsSome, max}
 use Rattle.std.specs.Global.{Vec}
 use Rattle.std.specs.List.{list_all, range_with_len}
@@ -10,7 +10,7 @@ use Rattle.std.specs.declared.cmp.Ordering.{Ordering}
 use Rattle.std.specs.declared.cmp.Ordering.TheVariants.{Less, Equal, Greater}
 use Rattle.std.proofs.lemmas.Bool.{and_parts, false≢true, ltb-true}
 use Rattle.std.proofs.lemmas.Cmp.{ranked}
-use Rattle.std.proofs.lemmas.List.{append-nil}
+use Rattle.std.proofs.lemmas.List.{append-nil, take-append-drop, take_all}
 use Rattle.std.proofs.lemmas.List.Elements.{All-contains, All-cons, All-head, All-nil, All-tail, All-weaker}
 use Rattle.std.proofs.lemmas.Option.{none-some, same_Some, slice_get_within}
 use Rattle.c11_parsing.specs.Core.{index_of}
@@ -26,7 +26,9 @@ use Rattle.lr_tables.specs.Grammar.{after, entries_of, is_known, IsGrammar, Prod
 use Rattle.lr_tables.specs.Paths.{Path, above, lowest, top}
 use Rattle.sc_fork.proofs.ProductionLemmas.{is-grammar, reduction-of}
 use Rattle.lr_tables.proofs.Members.{passes}
+use Rattle.sc_fork.specs.Bundles.{AreDone, events_of}
 use Rattle.sc_fork.specs.declared.event.Event.TheVariants.{Reduce}
+use Rattle.sc_fork.specs.declared.event.Kind.TheVariants as kinds
 use Rattle.sc_fork.specs.View.{View, states_in}
 use Rattle.sc_fork.specs.declared.piece.Piece.{Piece}
 use Rattle.sc_fork.specs.declared.piece.Piece.TheVariants.{Going, Over}
@@ -46,13 +48,14 @@ use Rattle.sc_model.specs.Growth.{Extends}
 use Rattle.sc_model.specs.Sets.{Keeps, Sets}
 use Rattle.sc_base.proofs.Growth.{Extends-trans}
 use Rattle.sc_model.proofs.SetLemmas.{Keeps-trans}
-use Rattle.sc_parse.proofs.NumberLemmas.{each-append, each-kept, each-of, each-then, event-replaces, fewer-numbers, filled-most, first-number, made-each, numbers-after, replaces-same, replaces-then, times-append}
+use Rattle.sc_parse.proofs.DoneLemmas.{done-each}
+use Rattle.sc_parse.proofs.NumberLemmas.{all-times, each-append, each-both, each-kept, each-of, each-then, fewer-numbers, filled-most, first-number, made-each, numbers-after, replaces-same, replaces-then, times-all, times-append}
 use Rattle.sc_parse.proofs.RunLemmas.{goes-nowhere, goes-then, row-owned}
 use Rattle.sc_parse.specs.declared.reductions.Weight.{Weight}
 use Rattle.sc_parse.specs.declared.steps.Steps.{Steps}
 use Rattle.sc_parse.specs.Numbers.{AreLike, AreNumbers, Each, IsAt, IsLikeOne, IsReady, Replaces, times}
-use Rattle.sc_parse.specs.Runs.{GoesOn, IsBefore, OwnsSteps}
-use Rattle.sc_parse.specs.Weights.{AreBelow, AreWeighed, HasWeight, IsRanked, IsReducing, IsWeighed, Moves, number_of, numbers_of, rank_of}
+use Rattle.sc_parse.specs.Runs.{GoesOn, OwnsSteps, StandsBefore}
+use Rattle.sc_parse.specs.Weights.{ActsBy, AreBelow, AreReducing, AreWeighed, HasWeight, IsRanked, IsReducing, IsWeighed, Moves, number_of, numbers_of, rank_of}
 use Rattle.sc_tree.specs.Lines.{Line, OwnsBranches}
 
 abbrev Entry : Type 0
@@ -443,28 +446,50 @@ at-number P rows n ns s has each =
 tail-of : (P : Subparser → Type 0) (rows : List (Option Subparser)) (n : ℕ) (ns : List ℕ) → Each P rows (n ∷ ns) → Each P rows ns
 tail-of P rows n ns each = All-tail (λ m. (t : Subparser) × (Has rows m t × P t)) n ns each
 
--- the number of a production by which a subparser is reduced
-pub reduction-number : (sets : Sets) (count : ℕ) (s : Steps) (n p : ℕ) → OwnsSteps sets count s → Each (IsReducing s.core.source p) s.core.subparsers (n ∷ []) → (1 ≤ p) × (p ≤ 288)
-reduction-number sets count s n p own each =
-    let h = All-head (λ m. (t : Subparser) × (Has s.core.subparsers m t × IsReducing s.core.source p t)) n [] each in
+-- the number of a production by which subparsers are reduced
+pub reduction-number : (sets : Sets) (count : ℕ) (s : Steps) (ns : List ℕ) (p : ℕ) → OwnsSteps sets count s → 0 < length ns → Each (IsReducing s.core.source p) s.core.subparsers ns → (1 ≤ p) × (p ≤ 288)
+reduction-number sets count s [] p own some each = absurd (omega (arith, some))
+reduction-number sets count s (n ∷ ns) p own some each =
+    let h = All-head (λ m. (t : Subparser) × (Has s.core.subparsers m t × IsReducing s.core.source p t)) n ns each in
     let row = row-owned sets count s n h.0 own h.1.0 in
     let c11 = own.core.source.tables in
     let r = reduction-of s.core.source h.0 h.1.1.at p own.core.source c11 (row.path c11) h.1.1.action in
     let within : p - 1 < length productions = slice_get_within productions (p - 1) r.production r.at in
     let long : length productions ≡ 288 = refl in
-    let some = r.some in
-    (omega (arith, some), omega (arith, within, long, some))
+    let first = r.some in
+    (omega (arith, first), omega (arith, within, long, first))
 
 -- the element that comes next is before the one behind it
-pub before-next : (rows : List (Option Subparser)) (n : ℕ) (ns : List ℕ) (j : ℕ) → Each (IsAt j) rows (n ∷ ns) → IsBefore rows (j + 1) (Reduce n)
-before-next rows n ns j each = λ s has. let e = ap (λ (phase : Phase). index_of (phase_of phase)) (at-number (IsAt j) rows n ns s has each) in omega (arith, e)
+pub at-before : (rows : List (Option Subparser)) (ns : List ℕ) (j : ℕ) → Each (IsAt j) rows ns → Each (StandsBefore (j + 1)) rows ns
+at-before rows ns j each = each-then (IsAt j) (StandsBefore (j + 1)) rows ns (λ s at. let e = ap (λ (phase : Phase). index_of (phase_of phase)) at in omega (arith, e)) each
+
+-- ---- what one reduction makes, and what several make
+
+pub one-each : (before after : View) (n p : ℕ) (made : List ℕ) → HasMade before (Reduce n) after made → Each (IsReducing before.source p) before.subparsers (n ∷ []) → (P Q : Subparser → Type 0)
+    → ((i : ℕ) (x y : Subparser) → Q x → x.phase ≡ At i → IsReducedBy before.source i p x y → P y) → Each Q before.subparsers (n ∷ []) → Each P after.subparsers made
+one-each before after n p made has reducing P Q gives each =
+    let r = All-head (λ m. (x : Subparser) × (Has before.subparsers m x × IsReducing before.source p x)) n [] reducing in
+    each-then (IsReducedBy before.source r.1.1.at p r.0) P after.subparsers made
+    (λ y by. gives r.1.1.at r.0 y (at-number Q before.subparsers n [] r.0 r.1.0 each) r.1.1.phase by)
+    (made-reduced before after n made r.0 r.1.1.at p has r.1.0 r.1.1.phase r.1.1.action)
+
+pub group-each : (old : Sets) (lines : List Line) (before : View) (new : Sets) (added : List Line) (after : View) (made group : List ℕ) (p : ℕ)
+    → AreDone old lines before (events_of kinds.Reduce group) new added after made → AreNumbers before.subparsers group → Each (IsReducing before.source p) before.subparsers group
+    → (P Q : Subparser → Type 0) → ((i : ℕ) (x y : Subparser) → Q x → x.phase ≡ At i → IsReducedBy before.source i p x y → P y) → Each Q before.subparsers group → Each P after.subparsers made
+group-each old lines before new added after made group p done numbers reducing P Q gives each =
+    done-each kinds.Reduce before P (λ x. Q x × IsReducing before.source p x)
+    (λ between next n x more same q now has.
+    each-then (IsReducedBy between.source q.1.at p x) P next.subparsers more
+    (λ y by. gives q.1.at x y q.0 q.1.phase (subst (λ (source : Source). IsReducedBy source q.1.at p x y) same by))
+    (made-reduced between next n more x q.1.at p has now q.1.phase (subst (λ (source : Source). action_in source x q.1.at ≡ Some (Reduction p)) (sym same) q.1.action)))
+    old lines (events_of kinds.Reduce group) new added after made done group refl numbers (each-both Q (IsReducing before.source p) before.subparsers group each reducing)
 
 -- by this rank the subparser is below the weight
 abbrev pub IsLighter : ℕ → Weight → Subparser → Type 0
 IsLighter rank w s = 101 * length (states_in s) + rank < number_of w
 
--- A subparser was reduced. What has come of it and is left has this rank, and the others wait.
-pub record HasReduced (old new : Sets) (lines added : List Line) (before after : Steps) (number : ℕ) (waited : List Entry) (rank : ℕ) (left : List ℕ) (waiting : List Entry) : Type 0 where
+-- A group was reduced. What has come of it and is left has this rank, and the others wait.
+pub record HasReduced (old new : Sets) (lines added : List Line) (before after : Steps) (group : List ℕ) (waited : List Entry) (rank : ℕ) (left : List ℕ) (waiting : List Entry) : Type 0 where
   pub own : OwnsSteps new (length added) after
   pub branches : OwnsBranches new added
   pub keeps : Keeps old new
@@ -472,66 +497,60 @@ pub record HasReduced (old new : Sets) (lines added : List Line) (before after :
   pub numbers : AreNumbers after.core.subparsers (left ++ numbers_of waiting)
   pub weighed : AreWeighed after.core.source after.core.subparsers waiting
   pub ranked : Each (IsRanked after.core.source rank) after.core.subparsers left
-  pub moves : (j : ℕ) → Each (IsAt j) before.core.subparsers (number ∷ numbers_of waited)
-      → Moves old new lines added j before after (number ∷ numbers_of waited) (left ++ numbers_of waiting)
-  pub below : (w : Weight) → Each (HasWeight before.core.source w) before.core.subparsers (number ∷ []) → AreBelow (number_of w) waited
+  pub moves : (j : ℕ) → Each (IsAt j) before.core.subparsers (group ++ numbers_of waited)
+      → Moves old new lines added j before after (group ++ numbers_of waited) (left ++ numbers_of waiting)
+  pub below : (w : Weight) → Each (HasWeight before.core.source w) before.core.subparsers group → AreBelow (number_of w) waited
       → AreBelow (number_of w) waiting × Each (IsLighter rank w) after.core.subparsers left
 
-module _ (old new : Sets) (lines added : List Line) (s t : Steps) (n p : ℕ) (rule : Production) (es : List Entry) (made : List ℕ) (own : OwnsSteps old (length lines) s) (branches : OwnsBranches old lines)
-    (numbers : AreNumbers s.core.subparsers (n ∷ numbers_of es)) (j : ℕ) (at : Each (IsAt j) s.core.subparsers (n ∷ numbers_of es)) (weighed : AreWeighed s.core.source s.core.subparsers es)
-    (reducing : Each (IsReducing s.core.source p) s.core.subparsers (n ∷ [])) (numbered : slice_get productions (p - 1) ≡ Some rule) (has : HasMade s.core (Reduce n) t.core made)
-    (goes : (place : ℕ) → IsBefore s.core.subparsers place (Reduce n) → GoesOn old new lines added place s t) where
-  replaced : Replaces s.core.subparsers t.core.subparsers (n ∷ []) made
-  replaced = event-replaces s.core t.core (Reduce n) made has (fewer-numbers s.core.subparsers (n ∷ numbers_of es) (n ∷ []) numbers (λ m. omega arith))
+module _ (old new : Sets) (lines added : List Line) (s t : Steps) (group : List ℕ) (p : ℕ) (rule : Production) (es : List Entry) (made : List ℕ) (own : OwnsSteps old (length lines) s)
+    (branches : OwnsBranches old lines) (numbers : AreNumbers s.core.subparsers (group ++ numbers_of es)) (j : ℕ) (at : Each (IsAt j) s.core.subparsers (group ++ numbers_of es))
+    (weighed : AreWeighed s.core.source s.core.subparsers es) (numbered : slice_get productions (p - 1) ≡ Some rule) (replaced : Replaces s.core.subparsers t.core.subparsers group made)
+    (each-made : (P Q : Subparser → Type 0) → ((i : ℕ) (x y : Subparser) → Q x → x.phase ≡ At i → IsReducedBy s.core.source i p x y → P y) → Each Q s.core.subparsers group → Each P t.core.subparsers made)
+    (goes : (place : ℕ) → Each (StandsBefore place) s.core.subparsers group → GoesOn old new lines added place s t) where
+  counts : (m : ℕ) → times m (group ++ numbers_of es) ≡ times m group + times m (numbers_of es)
+  counts m = times-append m group (numbers_of es)
 
-  counts : (m : ℕ) → times m (n ∷ numbers_of es) ≡ times m (n ∷ []) + times m (numbers_of es)
-  counts m = omega arith
+  group-at : (i : ℕ) → Each (IsAt i) s.core.subparsers (group ++ numbers_of es) → Each (IsAt i) s.core.subparsers group
+  group-at i each = each-of (IsAt i) s.core.subparsers (group ++ numbers_of es) group each (λ k none. let e = counts k in omega (arith, e, none))
 
-  parent : (x : Subparser) × (Has s.core.subparsers n x × IsReducing s.core.source p x)
-  parent = All-head (λ m. (x : Subparser) × (Has s.core.subparsers m x × IsReducing s.core.source p x)) n [] reducing
+  same-rule : (i : ℕ) (x y : Subparser) (by : IsReducedBy s.core.source i p x y) → by.rule.left ≡ rule.left
+  same-rule i x y by = ap (λ (q : Production). q.left) (same_Some by.rule rule (sym by.numbered ∙ numbered))
 
-  each-reduced : Each (IsReducedBy s.core.source parent.1.1.at p parent.0) t.core.subparsers made
-  each-reduced = made-reduced s.core t.core n made parent.0 parent.1.1.at p has parent.1.0 parent.1.1.phase parent.1.1.action
-
-  same-rule : (x : Subparser) (by : IsReducedBy s.core.source parent.1.1.at p parent.0 x) → by.rule.left ≡ rule.left
-  same-rule x by = ap (λ (q : Production). q.left) (same_Some by.rule rule (sym by.numbered ∙ numbered))
+  goes-at : (i : ℕ) → Each (IsAt i) s.core.subparsers (group ++ numbers_of es) → GoesOn old new lines added (i + 1) s t
+  goes-at i each = goes (i + 1) (at-before s.core.subparsers group i (group-at i each))
 
   went : GoesOn old new lines added (j + 1) s t
-  went = goes (j + 1) (before-next s.core.subparsers n (numbers_of es) j at)
+  went = goes-at j at
 
-  at-of : (i : ℕ) → Each (IsAt i) s.core.subparsers (n ∷ numbers_of es) → (x : Subparser) → IsReducedBy s.core.source parent.1.1.at p parent.0 x → IsAt i x
-  at-of i each x by = by.phase ∙ ap At (one-at parent.0 parent.1.1.at i parent.1.1.phase (at-number (IsAt i) s.core.subparsers n (numbers_of es) parent.0 parent.1.0 each))
-
-  pub reduced-first : HasReduced old new lines added s t n es rule.left made es
+  pub reduced-first : HasReduced old new lines added s t group es rule.left made es
   reduced-first = record {
     own = went.own;
     branches = went.branches;
     keeps = went.keeps;
     grows = went.grows;
-    numbers = numbers-then s.core.subparsers t.core.subparsers (n ∷ []) made (numbers_of es) (n ∷ numbers_of es) (made ++ numbers_of es) replaced numbers counts (λ m. times-append m made (numbers_of es));
+    numbers = numbers-then s.core.subparsers t.core.subparsers group made (numbers_of es) (group ++ numbers_of es) (made ++ numbers_of es) replaced numbers counts (λ m. times-append m made (numbers_of es));
     weighed = subst (λ source. AreWeighed source t.core.subparsers es) (sym went.source)
-        (weighed-then s.core.source s.core.subparsers t.core.subparsers (n ∷ []) made (n ∷ numbers_of es) es replaced numbers (λ m. omega arith) weighed);
+        (weighed-then s.core.source s.core.subparsers t.core.subparsers group made (group ++ numbers_of es) es replaced numbers (λ m. let e = counts m in omega (arith, e)) weighed);
     ranked = subst (λ source. Each (IsRanked source rule.left) t.core.subparsers made) (sym went.source)
-        (each-then (IsReducedBy s.core.source parent.1.1.at p parent.0) (IsRanked s.core.source rule.left) t.core.subparsers made
-        (λ x by. subst (λ rank. IsRanked s.core.source rank x) (same-rule x by) (reduced-ranked s.core.source parent.1.1.at p parent.0 x by)) each-reduced);
+        (each-made (IsRanked s.core.source rule.left) (IsAt j)
+        (λ i x y look phase by. subst (λ rank. IsRanked s.core.source rank y) (same-rule i x y by) (reduced-ranked s.core.source i p x y by)) (group-at j at));
     moves = λ i each.
-        moves-then old old new lines lines added i s s t (n ∷ numbers_of es) (n ∷ numbers_of es) (n ∷ []) made (numbers_of es) (made ++ numbers_of es) (moves-nowhere old lines i s (n ∷ numbers_of es) own branches each) numbers
-        (goes (i + 1) (before-next s.core.subparsers n (numbers_of es) i each)) replaced counts (λ m. times-append m made (numbers_of es))
-        (each-then (IsReducedBy s.core.source parent.1.1.at p parent.0) (IsAt i) t.core.subparsers made (at-of i each) each-reduced);
+        moves-then old old new lines lines added i s s t (group ++ numbers_of es) (group ++ numbers_of es) group made (numbers_of es) (made ++ numbers_of es)
+        (moves-nowhere old lines i s (group ++ numbers_of es) own branches each) numbers (goes-at i each) replaced counts (λ m. times-append m made (numbers_of es))
+        (each-made (IsAt i) (IsAt i) (λ k x y look phase by. by.phase ∙ ap At (one-at x k i phase look)) (group-at i each));
     below = λ w heavy low. (
       low,
-      each-then (IsReducedBy s.core.source parent.1.1.at p parent.0) (IsLighter rule.left w) t.core.subparsers made
-          (λ x by.
-          let weight = at-number (HasWeight s.core.source w) s.core.subparsers n [] parent.0 parent.1.0 heavy in
-          let less = lighter s.core.source parent.1.1.at p parent.0 x by own.core.source.tables w.rank weight.ranked in
+      each-made (IsLighter rule.left w) (HasWeight s.core.source w)
+          (λ i x y weight phase by.
+          let less = lighter s.core.source i p x y by own.core.source.tables w.rank weight.ranked in
           let height = weight.height in
-          let left = same-rule x by in
+          let left = same-rule i x y by in
           omega (arith, less, height, left))
-          each-reduced,
+          heavy,
     );
   }
 
-module _ (a b c : Sets) (one two three : List Line) (s t u : Steps) (n : ℕ) (waited : List Entry) (rank m : ℕ) (rest : List ℕ) (es new : List Entry) (h : HasReduced a b one two s t n waited rank (m ∷ rest) es)
+module _ (a b c : Sets) (one two three : List Line) (s t u : Steps) (group : List ℕ) (waited : List Entry) (rank m : ℕ) (rest : List ℕ) (es new : List Entry) (h : HasReduced a b one two s t group waited rank (m ∷ rest) es)
     (goes : (place : ℕ) → GoesOn b c two three place t u) (replaces : Replaces t.core.subparsers u.core.subparsers (m ∷ numbers_of es) (numbers_of new)) (weighed : AreWeighed u.core.source u.core.subparsers new)
     (at : (j : ℕ) → Each (IsAt j) t.core.subparsers (m ∷ numbers_of es) → Each (IsAt j) u.core.subparsers (numbers_of new))
     (below : (bound : ℕ) (x : Subparser) → Has t.core.subparsers m x → AreBelow bound es → 101 * length (states_in x) + rank < bound → AreBelow bound new) where
@@ -546,7 +565,7 @@ module _ (a b c : Sets) (one two three : List Line) (s t u : Steps) (n : ℕ) (w
       others-kept P t.core.subparsers u.core.subparsers (m ∷ numbers_of es) (numbers_of new) rest ((m ∷ rest) ++ numbers_of es) replaces h.numbers
       (λ k. let e = counts-2 k in omega (arith, e)) (tail-of P t.core.subparsers m rest each)
 
-  pub reduced-next : HasReduced a c one three s u n waited rank rest new
+  pub reduced-next : HasReduced a c one three s u group waited rank rest new
   reduced-next = record {
     own = (goes 0).own;
     branches = (goes 0).branches;
@@ -557,7 +576,7 @@ module _ (a b c : Sets) (one two three : List Line) (s t u : Steps) (n : ℕ) (w
     ranked = subst (λ source. Each (IsRanked source rank) u.core.subparsers rest) (sym (goes 0).source) (kept-2 (IsRanked t.core.source rank) h.ranked);
     moves = λ j each.
         let first = h.moves j each in
-        moves-then a b c one two three j s t u (n ∷ numbers_of waited) ((m ∷ rest) ++ numbers_of es) (m ∷ numbers_of es) (numbers_of new) rest (rest ++ numbers_of new) first h.numbers
+        moves-then a b c one two three j s t u (group ++ numbers_of waited) ((m ∷ rest) ++ numbers_of es) (m ∷ numbers_of es) (numbers_of new) rest (rest ++ numbers_of new) first h.numbers
         (goes (j + 1)) replaces counts-2 comes-2
         (at j (each-of (IsAt j) t.core.subparsers ((m ∷ rest) ++ numbers_of es) (m ∷ numbers_of es) first.at (λ k none. let e = counts-2 k in omega (arith, e, none))));
     below = λ w heavy low.
@@ -606,65 +625,38 @@ taken-first sets lines s ready heaviest left es same own branches numbers weighe
       below = λ w heavy low. (low, heavy);
     })
 
-module _ (a b : Sets) (one two : List Line) (s t : Steps) (was_ready heaviest : List ℕ) (waited : List Entry) (ready : List ℕ) (m : ℕ) (rest : List ℕ) (es : List Entry)
-    (h : HasTaken a b one two s t was_ready heaviest waited ready (m ∷ rest) es) where
+module _ (a b : Sets) (one two : List Line) (s t : Steps) (was_ready heaviest : List ℕ) (waited : List Entry) (ready group rest : List ℕ) (es : List Entry)
+    (h : HasTaken a b one two s t was_ready heaviest waited ready (group ++ rest) es) where
   abbrev all-3 : List ℕ
   all-3 = was_ready ++ (heaviest ++ numbers_of waited)
 
   abbrev whole-3 : List ℕ
-  whole-3 = ready ++ ((m ∷ rest) ++ numbers_of es)
+  whole-3 = ready ++ ((group ++ rest) ++ numbers_of es)
 
-  parts-3 : (k : ℕ) → times k whole-3 ≡ times k ready + (times k (m ∷ rest) + times k (numbers_of es))
-  parts-3 k = let e = times-append k ready ((m ∷ rest) ++ numbers_of es) in let f = times-append k (m ∷ rest) (numbers_of es) in omega (arith, e, f)
+  parts-3 : (k : ℕ) → times k whole-3 ≡ times k ready + (times k group + (times k rest + times k (numbers_of es)))
+  parts-3 k =
+      let e = times-append k ready ((group ++ rest) ++ numbers_of es) in
+      let f = times-append k (group ++ rest) (numbers_of es) in
+      let o = times-append k group rest in
+      omega (arith, e, f, o)
 
-  -- the one that comes next, and those that wait
-  pub next-numbers : AreNumbers t.core.subparsers (m ∷ numbers_of es)
-  next-numbers = fewer-numbers t.core.subparsers whole-3 (m ∷ numbers_of es) h.numbers (λ k. let e = parts-3 k in omega (arith, e))
+  -- those that come next, and those that wait
+  pub next-numbers : AreNumbers t.core.subparsers (group ++ numbers_of es)
+  next-numbers = fewer-numbers t.core.subparsers whole-3 (group ++ numbers_of es) h.numbers (λ k. let e = parts-3 k in let f = times-append k group (numbers_of es) in omega (arith, e, f))
 
-  pub next-at : (j : ℕ) → Each (IsAt j) s.core.subparsers all-3 → Each (IsAt j) t.core.subparsers (m ∷ numbers_of es)
-  next-at j each = each-of (IsAt j) t.core.subparsers whole-3 (m ∷ numbers_of es) (h.moves j each).at (λ k none. let e = parts-3 k in omega (arith, e, none))
-
-  -- where its action is no reduction, it is ready
-  pub taken-ready : ((j : ℕ) (x : Subparser) → Has t.core.subparsers m x → IsAt j x → (p : ℕ) → action_in t.core.source x j ≡ Some (Reduction p) → ⊥)
-      → HasTaken a b one two s t was_ready heaviest waited (ready ++ m ∷ []) rest es
-  taken-ready shifts = record {
-    own = h.own;
-    branches = h.branches;
-    keeps = h.keeps;
-    grows = h.grows;
-    numbers = fewer-numbers t.core.subparsers whole-3 ((ready ++ m ∷ []) ++ (rest ++ numbers_of es)) h.numbers (λ k. let e = same k in omega (arith, e));
-    weighed = h.weighed;
-    moves = λ j each.
-        let first = h.moves j each in
-        record {
-          goes_on = first.goes_on;
-          replaces = record { counts = λ k. let e = same k in let was = first.replaces.counts k in omega (arith, e, was); kept = first.replaces.kept };
-          at = each-of (IsAt j) t.core.subparsers whole-3 ((ready ++ m ∷ []) ++ (rest ++ numbers_of es)) first.at (λ k none. let e = same k in omega (arith, e, none));
-        };
-    are_ready = λ j each before.
-        let at = All-head (λ k. (x : Subparser) × (Has t.core.subparsers k x × IsAt j x)) m (numbers_of es) (next-at j each) in
-        let R : ℕ → Type 0 = λ k. (x : Subparser) × (Has t.core.subparsers k x × IsReady t.core.source j x) in
-        each-append (IsReady t.core.source j) t.core.subparsers ready (m ∷ []) (h.are_ready j each before)
-        (All-cons R m [] (at.0, (at.1.0, record { at = at.1.1; shifts = shifts j at.0 at.1.0 at.1.1 })) (All-nil R));
-    below = λ w heavy low. let first = h.below w heavy low in (first.0, tail-of (HasWeight t.core.source w) t.core.subparsers m rest first.1);
-  }
-    where
-      same : (k : ℕ) → times k ((ready ++ m ∷ []) ++ (rest ++ numbers_of es)) ≡ times k whole-3
-      same k =
-          let e = parts-3 k in
-          let f = times-append k (ready ++ m ∷ []) (rest ++ numbers_of es) in
-          let o = times-append k ready (m ∷ []) in
-          let r = times-append k rest (numbers_of es) in
-          omega (arith, e, f, o, r)
+  pub next-at : (j : ℕ) → Each (IsAt j) s.core.subparsers all-3 → Each (IsAt j) t.core.subparsers (group ++ numbers_of es)
+  next-at j each =
+      each-of (IsAt j) t.core.subparsers whole-3 (group ++ numbers_of es) (h.moves j each).at (λ k none. let e = parts-3 k in let f = times-append k group (numbers_of es) in omega (arith, e, f, none))
 
   module _ (c : Sets) (three : List Line) (u : Steps) (new : List Entry) (i : ℕ) (each-i : Each (IsAt i) s.core.subparsers all-3)
-      (went : (j : ℕ) → Each (IsAt j) t.core.subparsers (m ∷ numbers_of es) → Moves b c two three j t u (m ∷ numbers_of es) (numbers_of new)) (weighed : AreWeighed u.core.source u.core.subparsers new)
-      (below : (w : Weight) → Each (HasWeight t.core.source w) t.core.subparsers (m ∷ []) → AreBelow (number_of w) es → AreBelow (number_of w) new) where
-    went-i : Moves b c two three i t u (m ∷ numbers_of es) (numbers_of new)
+      (went : (j : ℕ) → Each (IsAt j) t.core.subparsers (group ++ numbers_of es) → Moves b c two three j t u (group ++ numbers_of es) (numbers_of new))
+      (weighed : AreWeighed u.core.source u.core.subparsers new)
+      (below : (w : Weight) → Each (HasWeight t.core.source w) t.core.subparsers group → AreBelow (number_of w) es → AreBelow (number_of w) new) where
+    went-i : Moves b c two three i t u (group ++ numbers_of es) (numbers_of new)
     went-i = went i (next-at i each-i)
 
-    counts-3 : (k : ℕ) → times k whole-3 ≡ times k (m ∷ numbers_of es) + times k (ready ++ rest)
-    counts-3 k = let e = parts-3 k in let f = times-append k ready rest in omega (arith, e, f)
+    counts-3 : (k : ℕ) → times k whole-3 ≡ times k (group ++ numbers_of es) + times k (ready ++ rest)
+    counts-3 k = let e = parts-3 k in let f = times-append k ready rest in let o = times-append k group (numbers_of es) in omega (arith, e, f, o)
 
     comes-3 : (k : ℕ) → times k (ready ++ (rest ++ numbers_of new)) ≡ times k (numbers_of new) + times k (ready ++ rest)
     comes-3 k =
@@ -676,7 +668,7 @@ module _ (a b : Sets) (one two : List Line) (s t : Steps) (was_ready heaviest : 
     -- what is true of others stays true
     kept-3 : (P : Subparser → Type 0) (ns : List ℕ) → ((k : ℕ) → times k ns ≤ times k (ready ++ rest)) → Each P t.core.subparsers ns → Each P u.core.subparsers ns
     kept-3 P ns few each =
-        others-kept P t.core.subparsers u.core.subparsers (m ∷ numbers_of es) (numbers_of new) ns whole-3 went-i.replaces h.numbers
+        others-kept P t.core.subparsers u.core.subparsers (group ++ numbers_of es) (numbers_of new) ns whole-3 went-i.replaces h.numbers
         (λ k. let e = counts-3 k in let f = few k in omega (arith, e, f)) each
 
     pub taken-reduced : HasTaken a c one three s u was_ready heaviest waited ready rest new
@@ -685,23 +677,61 @@ module _ (a b : Sets) (one two : List Line) (s t : Steps) (was_ready heaviest : 
       branches = went-i.goes_on.branches;
       keeps = Keeps-trans h.keeps went-i.goes_on.keeps;
       grows = Extends-trans h.grows went-i.goes_on.grows;
-      numbers = numbers-then t.core.subparsers u.core.subparsers (m ∷ numbers_of es) (numbers_of new) (ready ++ rest) whole-3 (ready ++ (rest ++ numbers_of new)) went-i.replaces h.numbers counts-3 comes-3;
+      numbers = numbers-then t.core.subparsers u.core.subparsers (group ++ numbers_of es) (numbers_of new) (ready ++ rest) whole-3 (ready ++ (rest ++ numbers_of new)) went-i.replaces h.numbers
+          counts-3 comes-3;
       weighed = weighed;
       moves = λ j each.
           let now = went j (next-at j each) in
-          moves-then a b c one two three j s t u all-3 whole-3 (m ∷ numbers_of es) (numbers_of new) (ready ++ rest) (ready ++ (rest ++ numbers_of new)) (h.moves j each) h.numbers now.goes_on now.replaces
-          counts-3 comes-3 now.at;
+          moves-then a b c one two three j s t u all-3 whole-3 (group ++ numbers_of es) (numbers_of new) (ready ++ rest) (ready ++ (rest ++ numbers_of new)) (h.moves j each) h.numbers now.goes_on
+          now.replaces counts-3 comes-3 now.at;
       are_ready = λ j each before.
           subst (λ source. Each (IsReady source j) u.core.subparsers ready) (sym went-i.goes_on.source)
           (kept-3 (IsReady t.core.source j) ready (λ k. let e = times-append k ready rest in omega (arith, e)) (h.are_ready j each before));
       below = λ w heavy low.
           let first = h.below w heavy low in
-          let N : ℕ → Type 0 = λ k. (x : Subparser) × (Has t.core.subparsers k x × HasWeight t.core.source w x) in (
-            below w (All-cons N m [] (All-head N m rest first.1) (All-nil N)) first.0,
+          let of : (ns : List ℕ) → ((k : ℕ) → times k ns ≤ times k (group ++ rest)) → Each (HasWeight t.core.source w) t.core.subparsers ns = λ ns few.
+          each-of (HasWeight t.core.source w) t.core.subparsers (group ++ rest) ns first.1 (λ k none. let e = few k in omega (arith, e, none))
+          in (
+            below w (of group (λ k. let e = times-append k group rest in omega (arith, e))) first.0,
             subst (λ source. Each (HasWeight source w) u.core.subparsers rest) (sym went-i.goes_on.source)
-                (kept-3 (HasWeight t.core.source w) rest (λ k. let e = times-append k ready rest in omega (arith, e)) (tail-of (HasWeight t.core.source w) t.core.subparsers m rest first.1)),
+                (kept-3 (HasWeight t.core.source w) rest (λ k. let e = times-append k ready rest in omega (arith, e)) (of rest (λ k. let e = times-append k group rest in omega (arith, e)))),
           );
     }
+
+-- one whose action is no reduction is ready
+module _ (a b : Sets) (one two : List Line) (s t : Steps) (was_ready heaviest : List ℕ) (waited : List Entry) (ready : List ℕ) (m : ℕ) (rest : List ℕ) (es : List Entry)
+    (h : HasTaken a b one two s t was_ready heaviest waited ready (m ∷ rest) es)
+    (shifts : (j : ℕ) (x : Subparser) → Has t.core.subparsers m x → IsAt j x → (p : ℕ) → action_in t.core.source x j ≡ Some (Reduction p) → ⊥) where
+  same-3 : (k : ℕ) → times k ((ready ++ m ∷ []) ++ (rest ++ numbers_of es)) ≡ times k (ready ++ ((m ∷ rest) ++ numbers_of es))
+  same-3 k =
+      let e = parts-3 a b one two s t was_ready heaviest waited ready (m ∷ []) rest es h k in
+      let f = times-append k (ready ++ m ∷ []) (rest ++ numbers_of es) in
+      let o = times-append k ready (m ∷ []) in
+      let r = times-append k rest (numbers_of es) in
+      omega (arith, e, f, o, r)
+
+  pub taken-ready : HasTaken a b one two s t was_ready heaviest waited (ready ++ m ∷ []) rest es
+  taken-ready = record {
+    own = h.own;
+    branches = h.branches;
+    keeps = h.keeps;
+    grows = h.grows;
+    numbers = fewer-numbers t.core.subparsers (ready ++ ((m ∷ rest) ++ numbers_of es)) ((ready ++ m ∷ []) ++ (rest ++ numbers_of es)) h.numbers (λ k. let e = same-3 k in omega (arith, e));
+    weighed = h.weighed;
+    moves = λ j each.
+        let first = h.moves j each in
+        record {
+          goes_on = first.goes_on;
+          replaces = record { counts = λ k. let e = same-3 k in let was = first.replaces.counts k in omega (arith, e, was); kept = first.replaces.kept };
+          at = each-of (IsAt j) t.core.subparsers (ready ++ ((m ∷ rest) ++ numbers_of es)) ((ready ++ m ∷ []) ++ (rest ++ numbers_of es)) first.at (λ k none. let e = same-3 k in omega (arith, e, none));
+        };
+    are_ready = λ j each before.
+        let at = All-head (λ k. (x : Subparser) × (Has t.core.subparsers k x × IsAt j x)) m (numbers_of es) (next-at a b one two s t was_ready heaviest waited ready (m ∷ []) rest es h j each) in
+        let R : ℕ → Type 0 = λ k. (x : Subparser) × (Has t.core.subparsers k x × IsReady t.core.source j x) in
+        each-append (IsReady t.core.source j) t.core.subparsers ready (m ∷ []) (h.are_ready j each before)
+        (All-cons R m [] (at.0, (at.1.0, record { at = at.1.1; shifts = shifts j at.0 at.1.0 at.1.1 })) (All-nil R));
+    below = λ w heavy low. let first = h.below w heavy low in (first.0, tail-of (HasWeight t.core.source w) t.core.subparsers m rest first.1);
+  }
 
 -- the action of a subparser that is reduced
 pub reducing-one : (source : Source) (rows : List (Option Subparser)) (n j p : ℕ) (ns : List ℕ) → Each (IsAt j) rows (n ∷ ns)
@@ -710,6 +740,63 @@ reducing-one source rows n j p ns each acts =
     let at = All-head (λ k. (x : Subparser) × (Has rows k x × IsAt j x)) n ns each in
     let R : ℕ → Type 0 = λ k. (x : Subparser) × (Has rows k x × IsReducing source p x) in
     All-cons R n [] (at.0, (at.1.0, record { at = j; phase = at.1.1; action = acts at.0 at.1.0 at.1.1 })) (All-nil R)
+
+-- the actions of those that are reduced together
+pub reducing-all : (source : Source) (rows : List (Option Subparser)) (ns : List ℕ) (j p : ℕ) → Each (IsAt j) rows ns
+    → All (ActsBy source p rows) ns → Each (IsReducing source p) rows ns
+reducing-all source rows ns j p each acts =
+    times-all (λ n. (s : Subparser) × (Has rows n s × IsReducing source p s)) ns (λ n some.
+    let at = all-times (λ m. (x : Subparser) × (Has rows m x × IsAt j x)) ns n each some in
+    let act = all-times (ActsBy source p rows) ns n acts some in
+    (at.0, (at.1.0, record { at = j; phase = at.1.1; action = act at.0 j (record { has = at.1.0; phase = at.1.1 }) })))
+
+-- what is split in two
+pub seam : (count : ℕ) (left group rest : List ℕ) → group ≡ take count left → rest ≡ drop count left → left ≡ group ++ rest
+seam count left group rest front back =
+    sym (take-append-drop count left) ∙ ap (λ ns. ns ++ drop count left) (sym front) ∙ ap (λ ns. group ++ ns) (sym back)
+
+pub first-left : (left rest : List ℕ) → 0 < length left → rest ≡ drop 1 left → left ≡ get_or left 0 0 ∷ rest
+first-left [] rest some is = absurd (omega (arith, some))
+first-left (n ∷ left) rest some is = ap (λ ns. n ∷ ns) (sym is)
+
+-- the group and the others are those that are left
+pub taken-split : {a b : Sets} {one two : List Line} {s t : Steps} {was_ready heaviest : List ℕ} {waited : List Entry} {ready left : List ℕ} {es : List Entry} (count : ℕ) (group rest : List ℕ)
+    → group ≡ take count left → rest ≡ drop count left → HasTaken a b one two s t was_ready heaviest waited ready left es
+    → HasTaken a b one two s t was_ready heaviest waited ready (group ++ rest) es
+taken-split {a} {b} {one} {two} {s} {t} {was_ready} {heaviest} {waited} {ready} {left} {es} count group rest front back h =
+    subst (λ ns. HasTaken a b one two s t was_ready heaviest waited ready ns es) (seam count left group rest front back) h
+
+pub first-one : (P : ℕ → Type 0) (left : List ℕ) → 0 < length left → P (get_or left 0 0) → All P (take 1 left)
+first-one P [] some first = absurd (omega (arith, some))
+first-one P (n ∷ left) some first = All-cons P n [] first (All-nil P)
+
+pub tail-whole : (left : List ℕ) → take (length left - 1) (drop 1 left) ≡ drop 1 left
+tail-whole [] = refl
+tail-whole (n ∷ left) = take_all (length (n ∷ left) - 1) left (omega arith)
+
+some-taken : (count : ℕ) (left : List ℕ) → 0 < count → count ≤ length left → 0 < length (take count left)
+some-taken zero left some few = absurd (omega (arith, some))
+some-taken (suc count) [] some few = absurd (omega (arith, few))
+some-taken (suc count) (n ∷ left) some few = omega arith
+
+-- the first ones of those that are left are reduced by the production: they are a group
+pub group-reducing : (source : Source) (rows : List (Option Subparser)) (left group : List ℕ) (count j p : ℕ) → 0 < count → count ≤ length left
+    → All (ActsBy source p rows) (take count left) → group ≡ take count left → Each (IsAt j) rows group → AreReducing source p rows group
+group-reducing source rows left group count j p some few acts is at = record {
+  some = subst (λ ns. 0 < length ns) (sym is) (some-taken count left some few);
+  each = reducing-all source rows group j p at (subst (All (ActsBy source p rows)) (sym is) acts);
+}
+
+-- what is left behind a group is less
+pub shorter : (count : ℕ) (left rest : List ℕ) → 0 < count → count ≤ length left → rest ≡ drop count left → length rest < length left
+shorter zero left rest some few is = absurd (omega (arith, some))
+shorter (suc count) [] rest some few is = absurd (omega (arith, few))
+shorter (suc count) (n ∷ left) rest some few is = let long = ap length is in let most = fewer count left in omega (arith, long, most)
+  where
+    fewer : (k : ℕ) (xs : List ℕ) → length (drop k xs) ≤ length xs
+    fewer zero xs = omega arith
+    fewer (suc k) [] = omega arith
+    fewer (suc k) (x ∷ xs) = let h = fewer k xs in omega (arith, h)
 
 -- ---- one subparser alone
 
@@ -786,7 +873,7 @@ rank-falls sets count s n rank p rule own ranked reducing numbered few =
     path.1.1
 
 module _ (a b c : Sets) (one two three : List Line) (s t u : Steps) (first n rank left : ℕ) (made : List ℕ) (alone : IsAlone a b one two s t first n rank)
-    (h : HasReduced b c two three t u n [] left made []) where
+    (h : HasReduced b c two three t u (n ∷ []) [] left made []) where
   -- what is made of the one subparser takes its place
   pub alone-moves : (j : ℕ) → Each (IsAt j) s.core.subparsers (first ∷ []) → Moves a c one three j s u (first ∷ []) made
   alone-moves j each =

@@ -1,8 +1,7 @@
 -- Numbers of subparsers, and what becomes of the subparsers that have them.
-use Rattle.std.specs.Prelude.{◌≡◌, ◌≤◌, ◌+◌, ◌==◌, ℕ, List, [], ◌∷◌, ◌++◌, length, slice_get, Option, Some, All, AllPairs, if◌then◌else◌}
+use Rattle.std.specs.Prelude.{◌≡◌, ◌≤◌, ◌+◌, ◌==◌, ℕ, List, [], ◌∷◌, slice_get, Option, Some, All, AllPairs, if◌then◌else◌}
 use Rattle.std.specs.List.{Contains}
 use Rattle.lr_tables.specs.declared.grammar.Action.TheVariants.{Reduce}
-use Rattle.sc_fork.specs.View.{View}
 use Rattle.sc_fork.specs.declared.source.Source.{Source}
 use Rattle.sc_fork.specs.Enabled.{Has}
 use Rattle.sc_fork.specs.Seen.{action_in}
@@ -64,12 +63,3 @@ pub record IsLikeOne (old : List (Option Subparser)) (others : List ℕ) (new : 
 -- each of the new subparsers is like one of the old ones
 abbrev pub AreLike : List (Option Subparser) → List ℕ → List (Option Subparser) → List ℕ → Type 0
 AreLike old others new numbers = All (IsLikeOne old others new) numbers
-
--- the number is gone, and those have come that are added, which are behind the element; there are
--- none behind the end
-pub record HasShifted (old : View) (j number : ℕ) (new : View) (before after : List ℕ) : Type 0 where
-  pub made : List ℕ
-  pub is : after ≡ before ++ made
-  pub replaces : Replaces old.subparsers new.subparsers (number ∷ []) made
-  pub behind : Each (IsBetween (j + 1)) new.subparsers made
-  pub none : j ≡ length old.source.list.now → made ≡ []

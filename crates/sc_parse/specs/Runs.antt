@@ -88,6 +88,10 @@ IsBefore rows place (Reduce n) = (s : Subparser) → Has rows n s → index_of (
 IsBefore rows place (Shift n) = (s : Subparser) → Has rows n s → index_of (phase_of s.phase) < place
 IsBefore rows place (Classify n) = (s : Subparser) → Has rows n s → index_of (phase_of s.phase) < place
 
+-- the element that comes next for the subparser, or for which its kind does, is before the place
+abbrev pub StandsBefore : ℕ → Subparser → Type 0
+StandsBefore place s = index_of (phase_of s.phase) < place
+
 -- What is true of each call that does events: the stores grow, the core is one of them, and what
 -- was a run is one. No configuration ends at or behind the place.
 pub record GoesOn (old new : Sets) (lines added : List Line) (place : ℕ) (before after : Steps) : Type 0 where

@@ -9,9 +9,12 @@ use Rattle.sc_merge.specs.declared.subparser.Phase.TheVariants.{Between}
 use Rattle.sc_merge.specs.declared.subparser.Subparser.{Subparser}
 use Rattle.sc_parse.specs.declared.rows.Rows.{Rows}
 use Rattle.sc_parse.specs.declared.steps.Steps.{Steps}
+use Rattle.sc_model.specs.Sets.{Sets}
 use Rattle.sc_parse.specs.Filed.{numbers_in}
+use Rattle.sc_parse.specs.Numbers.{Each, IsBetween, Replaces}
 use Rattle.sc_parse.specs.Places.{HasPlace}
-use Rattle.sc_parse.specs.Runs.{AreWaiting, HaveEndedBefore, IsRun}
+use Rattle.sc_parse.specs.Runs.{AreWaiting, GoesOn, HaveEndedBefore, IsRun}
+use Rattle.sc_tree.specs.Lines.{Line}
 use Rattle.sc_tree.specs.Reads.{Tables}
 
 -- at some place there are so many classes, and at none before this one there are more
@@ -35,3 +38,11 @@ pub record IsAtPlace (w : Tables) (input : Input) (first : core.Core) (s : Steps
 pub record HasBegun (c : View) : Type 0 where
   pub rows : (n : ℕ) (s : Subparser) → Has c.subparsers n s → (n ≡ 0) × (s.phase ≡ Between 0)
   pub none : c.ended ≡ []
+
+-- the numbers are gone, and those have come that are made, which are behind the element; there are
+-- none behind the end
+pub record HasShifted (old new : Sets) (lines added : List Line) (j : ℕ) (before after : Steps) (gone made : List ℕ) : Type 0 where
+  pub goes_on : GoesOn old new lines added (j + 1) before after
+  pub replaces : Replaces before.core.subparsers after.core.subparsers gone made
+  pub behind : Each (IsBetween (j + 1)) after.core.subparsers made
+  pub none : j ≡ length before.core.source.list.now → made ≡ []

@@ -5,6 +5,7 @@ use Rattle.std.specs.List.{flat_map}
 use Rattle.lr_tables.specs.declared.grammar.Action.TheVariants.{Reduce}
 use Rattle.lr_tables.specs.Paths.{Path}
 use Rattle.sc_fork.specs.declared.source.Source.{Source}
+use Rattle.sc_fork.specs.Enabled.{LooksAt}
 use Rattle.sc_fork.specs.Owns.{HasC11Tables}
 use Rattle.sc_fork.specs.Seen.{action_in}
 use Rattle.sc_fork.specs.View.{states_in}
@@ -56,6 +57,15 @@ pub record IsReducing (source : Source) (p : ℕ) (s : Subparser) : Type 0 where
   pub at : ℕ
   pub phase : s.phase ≡ At at
   pub action : action_in source s at ≡ Some (Reduce p)
+
+-- these are some numbers, and the subparser of each is reduced by this production
+pub record AreReducing (source : Source) (p : ℕ) (rows : List (Option Subparser)) (numbers : List ℕ) : Type 0 where
+  pub some : 0 < length numbers
+  pub each : Each (IsReducing source p) rows numbers
+
+-- whatever the subparser of the number looks at, it is reduced there by this production
+abbrev pub ActsBy : Source → ℕ → List (Option Subparser) → ℕ → Type 0
+ActsBy source p rows n = (s : Subparser) (at : ℕ) → LooksAt rows n s at → action_in source s at ≡ Some (Reduce p)
 
 -- the subparsers that are gone and those that have come look at one element
 pub record Moves (old new : Sets) (lines added : List Line) (j : ℕ) (before after : Steps) (gone made : List ℕ) : Type 0 where

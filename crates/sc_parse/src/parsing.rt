@@ -10,12 +10,12 @@ ghost use Rattle.sc_merge.specs.Merges.{tables_with};
 ghost use Rattle.sc_model.specs.Growth.{Extends};
 ghost use Rattle.sc_model.specs.Sets.{IsCond, Keeps};
 ghost use Rattle.sc_parse.specs.Filed.{AreAllFiled};
-ghost use Rattle.sc_parse.specs.Numbers.{AreNumbers, Each, HasShifted, IsAt, IsBetween, IsReady, Replaces};
+ghost use Rattle.sc_parse.specs.Numbers.{AreNumbers, Each, IsAt, IsBetween, IsReady, Replaces};
 ghost use Rattle.sc_parse.specs.MostClasses.{HasMostClasses};
 ghost use Rattle.sc_parse.specs.Parses.{IsInputOf, IsParse, OwnsParsed, StopsFor};
 ghost use Rattle.sc_parse.specs.Places.{HasPlace, IsSchedule};
 ghost use Rattle.sc_parse.specs.Runs.{GoesOn, IsRun, OwnsSteps};
-ghost use Rattle.sc_parse.specs.Turns.{HasBegun, IsAtPlace};
+ghost use Rattle.sc_parse.specs.Turns.{HasBegun, HasShifted, IsAtPlace};
 ghost use Rattle.sc_tree.specs.Lines.{OwnsBranches};
 
 use crate::parsed::Parsed;
@@ -23,7 +23,7 @@ use crate::reductions::reduced;
 use crate::rows::Rows;
 use crate::steps::Steps;
 use sc_base::{Cond, Limits, Names, OutOfMemory, Place, Stop, Token};
-use sc_fork::{Core, Event};
+use sc_fork::{Core, Event, Kind};
 use sc_guarded::Guarded;
 use sc_lalr::Tables;
 use sc_merge::Phase;
@@ -172,11 +172,34 @@ fn shifted<C: Conditions>(
     requires branches { OwnsBranches (C.sets conds.old) trees.old }
     requires numbers { AreNumbers steps.old.core.subparsers row.items }
     requires at { (j : ℕ) × Each (IsAt j) steps.old.core.subparsers row.items }
-    ensures goes_on { IfOk result (λ behind. (j : ℕ) → Each (IsAt j) steps.old.core.subparsers row.items
-        → GoesOn (C.sets conds.old) (C.sets conds.new) trees.old trees.new (j + 1) steps.old steps.new) }
-    ensures replaces { IfOk result (λ behind. Replaces steps.old.core.subparsers steps.new.core.subparsers row.items behind.items) }
-    ensures between { IfOk result (λ behind. (j : ℕ) → Each (IsAt j) steps.old.core.subparsers row.items → Each (IsBetween (j + 1)) steps.new.core.subparsers behind.items) }
-    ensures end { IfOk result (λ behind. Each (IsAt (length steps.old.core.source.list.now)) steps.old.core.subparsers row.items → behind.items ≡ []) }
+    ensures shifts { IfOk result (λ behind. (j : ℕ) → Each (IsAt j) steps.old.core.subparsers row.items
+        → HasShifted (C.sets conds.old) (C.sets conds.new) trees.old trees.new j steps.old steps.new row.items behind.items) }
+
+    // at every outcome
+    ensures keeps { Keeps (C.sets conds.old) (C.sets conds.new) }
+    ensures grows { Extends trees.old trees.new }
+    ensures owns { OwnsBranches (C.sets conds.new) trees.new }
+{
+    let ready = reduced(alloc, conds, trees, steps, row)?;
+    let behind = shift(alloc, conds, trees, steps, &ready)?;
+    Ok(behind)
+}
+
+/// Shifts the element for each of these, and its kind where it is a name. The answer is what comes
+/// of them.
+fn shift<C: Conditions>(
+    alloc: Global,
+    conds: &mut C,
+    trees: &mut Trees,
+    steps: &mut Steps<'_>,
+    ready: &[usize],
+) -> Result<Vec<usize>, OutOfMemory>
+    requires own { OwnsSteps (C.sets conds.old) (length trees.old) steps.old }
+    requires branches { OwnsBranches (C.sets conds.old) trees.old }
+    requires numbers { AreNumbers steps.old.core.subparsers ready.now }
+    requires ready { (j : ℕ) × Each (IsReady steps.old.core.source j) steps.old.core.subparsers ready.now }
+    ensures shifts { IfOk result (λ behind. (j : ℕ) → Each (IsReady steps.old.core.source j) steps.old.core.subparsers ready.now
+        → HasShifted (C.sets conds.old) (C.sets conds.new) trees.old trees.new j steps.old steps.new ready.now behind.items) }
 
     // at every outcome
     ensures keeps { Keeps (C.sets conds.old) (C.sets conds.new) }
@@ -184,35 +207,7 @@ fn shifted<C: Conditions>(
     ensures owns { OwnsBranches (C.sets conds.new) trees.new }
 {
     let mut behind = Vec::new(alloc);
-    for number in reduced(alloc, conds, trees, steps, row)? {
-        shift(alloc, conds, trees, steps, &mut behind, number)?;
-    }
-    Ok(behind)
-}
-
-/// Shifts the element, and its kind where it is a name, and adds what comes of it.
-fn shift<C: Conditions>(
-    alloc: Global,
-    conds: &mut C,
-    trees: &mut Trees,
-    steps: &mut Steps<'_>,
-    behind: &mut Vec<usize>,
-    number: usize,
-) -> Result<(), OutOfMemory>
-    requires own { OwnsSteps (C.sets conds.old) (length trees.old) steps.old }
-    requires branches { OwnsBranches (C.sets conds.old) trees.old }
-    requires ready { (j : ℕ) × Each (IsReady steps.old.core.source j) steps.old.core.subparsers (number ∷ []) }
-    ensures goes_on { IfOk result (λ u. (j : ℕ) → Each (IsReady steps.old.core.source j) steps.old.core.subparsers (number ∷ [])
-        → GoesOn (C.sets conds.old) (C.sets conds.new) trees.old trees.new (j + 1) steps.old steps.new) }
-    ensures shifts { IfOk result (λ u. (j : ℕ) → Each (IsReady steps.old.core.source j) steps.old.core.subparsers (number ∷ [])
-        → HasShifted steps.old.core j number steps.new.core behind.old.items behind.new.items) }
-
-    // at every outcome
-    ensures keeps { Keeps (C.sets conds.old) (C.sets conds.new) }
-    ensures grows { Extends trees.old trees.new }
-    ensures owns { OwnsBranches (C.sets conds.new) trees.new }
-{
-    for made in steps.apply(alloc, conds, trees, Event::Shift(number))? {
+    for made in steps.apply_all(alloc, conds, trees, Kind::Shift, ready)? {
         if matches!(steps.key(made).phase(), Phase::Named(_)) {
             let mut kinds = steps.apply(alloc, conds, trees, Event::Classify(made))?;
             behind.append(&mut kinds)?;
@@ -220,5 +215,5 @@ fn shift<C: Conditions>(
             behind.push(made)?;
         }
     }
-    Ok(())
+    Ok(behind)
 }

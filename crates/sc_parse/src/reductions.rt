@@ -1,5 +1,5 @@
 //! The reductions that one element causes, in an order in which subparsers that become alike meet.
-ghost use Rattle.std.specs.Prelude.{◌≡◌, ◌<◌, ◌≤◌, ◌+◌, ◌∷◌, ◌++◌, [], ℕ, None, Some, IfOk, IfSome, length};
+ghost use Rattle.std.specs.Prelude.{◌≡◌, ◌<◌, ◌≤◌, ◌+◌, ◌∷◌, ◌++◌, [], ℕ, All, None, Some, IfOk, IfSome, length, take};
 ghost use Rattle.lr_tables.specs.declared.grammar.Action.TheVariants.{Reduce};
 ghost use Rattle.sc_fork.specs.Enabled.{Has, LooksAt};
 ghost use Rattle.sc_fork.specs.Seen.{action_in};
@@ -9,14 +9,14 @@ ghost use Rattle.sc_model.specs.Growth.{Extends};
 ghost use Rattle.sc_model.specs.Sets.{Keeps};
 ghost use Rattle.sc_parse.specs.Numbers.{AreNumbers, Each, IsAt, IsReady, Replaces};
 ghost use Rattle.sc_parse.specs.Runs.{GoesOn, OwnsSteps};
-ghost use Rattle.sc_parse.specs.Weights.{AreBelow, AreWeighed, HasWeight, IsRanked, IsReducing, Moves, number_of, numbers_of};
+ghost use Rattle.sc_parse.specs.Weights.{ActsBy, AreBelow, AreReducing, AreWeighed, HasWeight, IsRanked, Moves, number_of, numbers_of};
 ghost use Rattle.sc_parse.specs.declared.reductions.Weight.{Weight};
 ghost use Rattle.sc_tree.specs.Lines.{OwnsBranches};
 
 use crate::steps::Steps;
 use lr_tables::Action;
 use sc_base::OutOfMemory;
-use sc_fork::Event;
+use sc_fork::{Event, Kind};
 use sc_grammar::{NONTERMINALS, production};
 use sc_presence::Conditions;
 use sc_tree::Trees;
@@ -88,7 +88,8 @@ pub(crate) fn reduced<C: Conditions>(
     Ok(ready)
 }
 
-/// Reduces each of these once. Those whose action is no reduction are ready.
+/// Reduces each of these once, neighbours by one rule together. Those whose action is no reduction
+/// are ready.
 fn reduce_each<C: Conditions>(
     alloc: Global,
     conds: &mut C,
@@ -117,35 +118,63 @@ fn reduce_each<C: Conditions>(
     ensures grows { Extends trees.old trees.new }
     ensures owns { OwnsBranches (C.sets conds.new) trees.new }
 {
-    for number in heaviest {
+    let mut left = heaviest.as_slice();
+    while left.len() > 0 {
+        let number = left[0];
         match reduction(steps, number) {
-            Some(rule) => reduce_one(alloc, conds, trees, steps, waiting, number, rule)?,
-            None => ready.push(number)?,
+            Some(rule) => {
+                let (group, rest) = left.split_at(reducing(steps, left, rule));
+                reduce_group(alloc, conds, trees, steps, waiting, group, rule)?;
+                left = rest;
+            }
+            None => {
+                ready.push(number)?;
+                left = &left[1..];
+            }
         }
     }
     Ok(())
 }
 
-/// Reduces a subparser once by its rule. What comes of it waits.
-fn reduce_one<C: Conditions>(
+/// How many of these, from the first on, are reduced by the rule of the first.
+fn reducing(steps: &Steps<'_>, numbers: &[usize], rule: usize) -> usize
+    requires some { 0 < length numbers.now }
+    requires first { All (ActsBy steps.now.core.source rule steps.now.core.subparsers) (take 1 numbers.now) }
+    ensures some { 0 < result }
+    ensures within { result ≤ length numbers.now }
+    ensures by { All (ActsBy steps.now.core.source rule steps.now.core.subparsers) (take result numbers.now) }
+{
+    for at in 1..numbers.len() {
+        let Some(other) = reduction(steps, numbers[at]) else {
+            return at;
+        };
+        if other != rule {
+            return at;
+        }
+    }
+    numbers.len()
+}
+
+/// Reduces each of these once by their rule. What comes of them waits.
+fn reduce_group<C: Conditions>(
     alloc: Global,
     conds: &mut C,
     trees: &mut Trees,
     steps: &mut Steps<'_>,
     waiting: &mut BTreeMap<Weight, Vec<usize>>,
-    number: usize,
+    group: &[usize],
     rule: usize,
 ) -> Result<(), OutOfMemory>
     requires own { OwnsSteps (C.sets conds.old) (length trees.old) steps.old }
     requires branches { OwnsBranches (C.sets conds.old) trees.old }
-    requires numbers { AreNumbers steps.old.core.subparsers (number ∷ numbers_of waiting.old.entries) }
-    requires at { (j : ℕ) × Each (IsAt j) steps.old.core.subparsers (number ∷ numbers_of waiting.old.entries) }
+    requires numbers { AreNumbers steps.old.core.subparsers (group.now ++ numbers_of waiting.old.entries) }
+    requires at { (j : ℕ) × Each (IsAt j) steps.old.core.subparsers (group.now ++ numbers_of waiting.old.entries) }
     requires weighed { AreWeighed steps.old.core.source steps.old.core.subparsers waiting.old.entries }
-    requires reduces { Each (IsReducing steps.old.core.source rule) steps.old.core.subparsers (number ∷ []) }
-    ensures moves { IfOk result (λ u. (j : ℕ) → Each (IsAt j) steps.old.core.subparsers (number ∷ numbers_of waiting.old.entries)
-        → Moves (C.sets conds.old) (C.sets conds.new) trees.old trees.new j steps.old steps.new (number ∷ numbers_of waiting.old.entries) (numbers_of waiting.new.entries)) }
+    requires reduces { AreReducing steps.old.core.source rule steps.old.core.subparsers group.now }
+    ensures moves { IfOk result (λ u. (j : ℕ) → Each (IsAt j) steps.old.core.subparsers (group.now ++ numbers_of waiting.old.entries)
+        → Moves (C.sets conds.old) (C.sets conds.new) trees.old trees.new j steps.old steps.new (group.now ++ numbers_of waiting.old.entries) (numbers_of waiting.new.entries)) }
     ensures weighed { IfOk result (λ u. AreWeighed steps.new.core.source steps.new.core.subparsers waiting.new.entries) }
-    ensures below { IfOk result (λ u. (w : Weight) → Each (HasWeight steps.old.core.source w) steps.old.core.subparsers (number ∷ [])
+    ensures below { IfOk result (λ u. (w : Weight) → Each (HasWeight steps.old.core.source w) steps.old.core.subparsers group.now
         → AreBelow (number_of w) waiting.old.entries → AreBelow (number_of w) waiting.new.entries) }
 
     // at every outcome
@@ -154,7 +183,7 @@ fn reduce_one<C: Conditions>(
     ensures owns { OwnsBranches (C.sets conds.new) trees.new }
 {
     let rank = production(rule).left.0;
-    for made in steps.apply(alloc, conds, trees, Event::Reduce(number))? {
+    for made in steps.apply_all(alloc, conds, trees, Kind::Reduce, group)? {
         wait(alloc, conds, trees, steps, waiting, rank, made)?;
     }
     Ok(())

@@ -1,8 +1,9 @@
 //! The events of a core, one after the other.
-ghost use Rattle.std.specs.Prelude.{◌≡◌, ◌<◌, ◌+◌, ◌++◌, ◌∷◌, [], ℕ, false, All, IfOk, IfSome, List, None, get_or, length, if◌then◌else◌};
+ghost use Rattle.std.specs.Prelude.{◌≡◌, ◌<◌, ◌+◌, ◌++◌, ◌∷◌, [], ℕ, false, All, IfOk, IfSome, List, None, OnOk, get_or, length, if◌then◌else◌};
 ghost use Rattle.c11_parsing.specs.Classes.{Input};
 ghost use Rattle.c11_parsing.specs.Core as core;
 ghost use Rattle.sc_fork.specs.declared.event.Fact.{Fact};
+ghost use Rattle.sc_fork.specs.Bundles.{AreDone, AreEnabled, event_by, events_of};
 ghost use Rattle.sc_fork.specs.Enabled.{Has, IsRefused};
 ghost use Rattle.sc_fork.specs.Pieces.{HasMade};
 ghost use Rattle.sc_merge.specs.declared.subparser.Subparser.{Subparser};
@@ -10,13 +11,13 @@ ghost use Rattle.sc_merge.specs.Keys.{AreAlike, IsKeyOf};
 ghost use Rattle.sc_merge.specs.Merges.{tables_with};
 ghost use Rattle.sc_model.specs.Growth.{Extends};
 ghost use Rattle.sc_model.specs.Sets.{Keeps};
-ghost use Rattle.sc_parse.specs.Numbers.{AreApart, AreLike, AreNumbers, Replaces};
-ghost use Rattle.sc_parse.specs.Runs.{AreWaiting, GoesOn, IsBefore, IsRun, IsStepTo, OwnsSteps};
+ghost use Rattle.sc_parse.specs.Numbers.{AreApart, AreLike, AreNumbers, Each, Replaces};
+ghost use Rattle.sc_parse.specs.Runs.{AreWaiting, GoesOn, IsBefore, StandsBefore, IsRun, IsStepTo, OwnsSteps};
 ghost use Rattle.sc_tree.specs.Lines.{OwnsBranches};
 
 use crate::packed::PackedEvent;
 use sc_base::OutOfMemory;
-use sc_fork::{Core, CoreStop, Event};
+use sc_fork::{Core, CoreStop, Event, Kind};
 use sc_merge::Key;
 use sc_presence::Conditions;
 use sc_tree::Trees;
@@ -56,6 +57,40 @@ impl Steps<'_> {
             Ok(applied) => {
                 let packed = PackedEvent::new(event)?;
                 self.events.push(packed)?;
+                Ok(applied.made)
+            }
+            Err(CoreStop::OutOfMemory) => Err(OutOfMemory),
+            Err(CoreStop::NotEnabled { fact: _ }) => unreachable!(),
+            Err(CoreStop::GivenUp) => unreachable!(),
+        }
+    }
+
+    /// Does the event of each of these subparsers, which the core can all do. The answer is the
+    /// numbers of the new subparsers.
+    pub(crate) fn apply_all<C: Conditions>(
+        &mut self,
+        alloc: Global,
+        conds: &mut C,
+        trees: &mut Trees,
+        kind: Kind,
+        members: &[usize],
+    ) -> Result<Vec<usize>, OutOfMemory>
+        requires own { OwnsSteps (C.sets conds.old) (length trees.old) self.old }
+        requires branches { OwnsBranches (C.sets conds.old) trees.old }
+        requires enabled { AreEnabled self.old.core.source self.old.core.subparsers kind members.now }
+        ensures done { IfOk result (λ made. AreDone (C.sets conds.old) trees.old self.old.core (events_of kind members.now)
+            (C.sets conds.new) trees.new self.new.core made.items) }
+        ensures goes_on { IfOk result (λ made. (place : ℕ) → AreNumbers self.old.core.subparsers members.now → Each (StandsBefore place) self.old.core.subparsers members.now
+            → GoesOn (C.sets conds.old) (C.sets conds.new) trees.old trees.new place self.old self.new) }
+
+        // at every outcome
+        ensures keeps { Keeps (C.sets conds.old) (C.sets conds.new) }
+        ensures grows { Extends trees.old trees.new }
+        ensures owns { OwnsBranches (C.sets conds.new) trees.new }
+    {
+        match self.core.apply_all(alloc, conds, trees, kind, members) {
+            Ok(applied) => {
+                push_events(&mut self.events, kind, members)?;
                 Ok(applied.made)
             }
             Err(CoreStop::OutOfMemory) => Err(OutOfMemory),
@@ -158,5 +193,29 @@ impl Steps<'_> {
             Some((_, key)) => key,
             None => unreachable!(),
         }
+    }
+}
+
+/// Adds the events of these subparsers, in turn.
+fn push_events(
+    events: &mut Vec<PackedEvent>,
+    kind: Kind,
+    members: &[usize],
+) -> Result<(), OutOfMemory>
+    ensures { OnOk result (events.new.items ≡ events.old.items ++ events_of kind members.now) }
+{
+    for number in members {
+        let packed = PackedEvent::new(event_of(kind, *number))?;
+        events.push(packed)?;
+    }
+    Ok(())
+}
+
+fn event_of(kind: Kind, number: usize) -> Event
+    ensures { result ≡ event_by kind number }
+{
+    match kind {
+        Kind::Reduce => Event::Reduce(number),
+        Kind::Shift => Event::Shift(number),
     }
 }

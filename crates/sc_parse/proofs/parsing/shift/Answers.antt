@@ -3,19 +3,22 @@ use Rattle.std.specs.Vec.Iter.{into_iter_items}
 use Rattle.sc_base.proofs.Growth.{Extends-trans}
 use Rattle.sc_merge.specs.declared.subparser.Phase.TheVariants.{Named}
 use Rattle.sc_model.proofs.SetLemmas.{Keeps-trans}
-use Rattle.sc_parse.proofs.ShiftLemmas.{classify-before, classify-enabled, first-ready, next-named, next-past, no-items, shift-before, shift-begins, shift-ends, shift-kept, shift-kinds, shift-next}
+use Rattle.sc_parse.proofs.DoneLemmas.{ready-enabled}
+use Rattle.sc_parse.proofs.ShiftLemmas.{classify-before, classify-enabled, next-named, next-past, no-items, ready-before, shift-begins, shift-ends, shift-kept, shift-kinds, shift-next}
 use Rattle.sc_parse.proofs.parsing.shift.Goals as goal
 use Rattle.sc_parse.proofs.parsing.shift.Goals.{in-Named, in_default}
+
+pub apply_all-requires-clause-enabled : goal.apply_all-requires-clause-enabled
+apply_all-requires-clause-enabled g c = ready-enabled c.args.steps.now.core.source c.args.steps.now.core.subparsers c.requires.ready.0 c.args.ready.now c.requires.numbers c.requires.ready.1
 
 pub loop-made-init : goal.loop-made-init
 loop-made-init g c =
     let gives = c.into_iter-made-iterator.ensures.into_iter_gives in
     record {
       shifting = λ j ready.
-          let one = first-ready c.args.steps.now.core.source c.args.steps.now.core.subparsers j c.args.number ready in
-          rw c.into_iter-made-iterator.ensures.into_iter_gives.0
-          (shift-begins _ _ _ _ c.args.steps.now _ j c.args.number c.args.behind.now.items _ ready c.in_ok-made-items.ensures.made
-          (c.in_ok-made-items.ensures.goes_on (j + 1) (shift-before c.args.steps.now.core.subparsers c.args.number j one.0 one.1.0 one.1.1.at)));
+          rw (c.into_iter-made-iterator.ensures.into_iter_gives.0, c.new-behind.ensures.items)
+          (shift-begins _ _ _ _ c.args.steps.now _ j c.args.ready.now _ c.requires.numbers ready c.in_ok-made-items.ensures.done
+          (c.in_ok-made-items.ensures.goes_on (j + 1) c.requires.numbers (ready-before c.args.steps.now.core.source c.args.steps.now.core.subparsers j c.args.ready.now ready)));
       count = omega (arith, gives.1, ap length gives.0, c.in_ok-made-items.made-items.ok.0);
     }
 
@@ -27,14 +30,14 @@ key-requires-clause-there g c =
     let next = next-past (shift-next c.in-Some.ensures.steps.0 (c.loop-made.invariant.shifting c.requires.ready.0 c.requires.ready.1)) in
     (next.0, next.1.0)
 
-pub apply-requires-then-matches-clause-own : goal.apply-requires-then-matches-clause-own
-apply-requires-then-matches-clause-own g c = (c.loop-made.invariant.shifting c.requires.ready.0 c.requires.ready.1).goes.own
+pub apply-requires-clause-own : goal.apply-requires-clause-own
+apply-requires-clause-own g c = (c.loop-made.invariant.shifting c.requires.ready.0 c.requires.ready.1).goes.own
 
-pub apply-requires-then-matches-clause-branches : goal.apply-requires-then-matches-clause-branches
-apply-requires-then-matches-clause-branches g c = (c.loop-made.invariant.shifting c.requires.ready.0 c.requires.ready.1).goes.branches
+pub apply-requires-clause-branches : goal.apply-requires-clause-branches
+apply-requires-clause-branches g c = (c.loop-made.invariant.shifting c.requires.ready.0 c.requires.ready.1).goes.branches
 
-pub apply-requires-then-matches-clause-enabled : goal.apply-requires-then-matches-clause-enabled
-apply-requires-then-matches-clause-enabled g c = elim c.match-matches.branch [
+pub apply-requires-clause-enabled : goal.apply-requires-clause-enabled
+apply-requires-clause-enabled g c = elim c.match-matches.branch [
   | in-Named w ↦
       classify-enabled c.loop-made.steps.core.source c.loop-made.steps.core.subparsers c.in-Some.made w.in-Named.field-0 c.key.ensures.0 c.key.ensures.1.0
       (sym c.key.ensures.1.1.phase ∙ sym w.in-Named.ensures)
@@ -42,16 +45,16 @@ apply-requires-then-matches-clause-enabled g c = elim c.match-matches.branch [
 ]
 
 pub returns-in_err-kinds-clause-keeps : goal.returns-in_err-kinds-clause-keeps
-returns-in_err-kinds-clause-keeps g c = Keeps-trans (c.loop-made.invariant.shifting c.requires.ready.0 c.requires.ready.1).goes.keeps c.apply-then-matches.ensures.keeps
+returns-in_err-kinds-clause-keeps g c = Keeps-trans (c.loop-made.invariant.shifting c.requires.ready.0 c.requires.ready.1).goes.keeps c.apply.ensures.keeps
 
 pub returns-in_err-kinds-clause-grows : goal.returns-in_err-kinds-clause-grows
-returns-in_err-kinds-clause-grows g c = Extends-trans (c.loop-made.invariant.shifting c.requires.ready.0 c.requires.ready.1).goes.grows c.apply-then-matches.ensures.grows
+returns-in_err-kinds-clause-grows g c = Extends-trans (c.loop-made.invariant.shifting c.requires.ready.0 c.requires.ready.1).goes.grows c.apply.ensures.grows
 
 pub returns-in_err-append-clause-keeps : goal.returns-in_err-append-clause-keeps
-returns-in_err-append-clause-keeps g c = Keeps-trans (c.loop-made.invariant.shifting c.requires.ready.0 c.requires.ready.1).goes.keeps c.apply-then-matches.ensures.keeps
+returns-in_err-append-clause-keeps g c = Keeps-trans (c.loop-made.invariant.shifting c.requires.ready.0 c.requires.ready.1).goes.keeps c.apply.ensures.keeps
 
 pub returns-in_err-append-clause-grows : goal.returns-in_err-append-clause-grows
-returns-in_err-append-clause-grows g c = Extends-trans (c.loop-made.invariant.shifting c.requires.ready.0 c.requires.ready.1).goes.grows c.apply-then-matches.ensures.grows
+returns-in_err-append-clause-grows g c = Extends-trans (c.loop-made.invariant.shifting c.requires.ready.0 c.requires.ready.1).goes.grows c.apply.ensures.grows
 
 pub loop-made-preserved-then-matches : goal.loop-made-preserved-then-matches
 loop-made-preserved-then-matches g c = record {
@@ -60,7 +63,7 @@ loop-made-preserved-then-matches g c = record {
         let rows = c.loop-made.steps.core.subparsers in
         let is : c.key.ensures.0.phase ≡ Named w.in-Named.field-0 = sym c.key.ensures.1.1.phase ∙ sym w.in-Named.ensures in
         let was = shift-next c.in-Some.ensures.steps.0 (c.loop-made.invariant.shifting j ready) in
-        rw c.in_ok-append.ensures.items (shift-kinds was ready _ _ c.apply-then-matches.new.self c.key.ensures.0 w.in-Named.field-0 _ c.key.ensures.1.0 is c.in_ok-kinds.ensures.made
+        rw c.in_ok-append.ensures.items (shift-kinds was c.requires.numbers _ _ c.apply.new.self c.key.ensures.0 w.in-Named.field-0 _ c.key.ensures.1.0 is c.in_ok-kinds.ensures.made
         (c.in_ok-kinds.ensures.goes_on (j + 1) (classify-before rows c.in-Some.made j c.key.ensures.0 c.key.ensures.1.0 (next-named was c.key.ensures.0 w.in-Named.field-0 c.key.ensures.1.0 is))))
     | in_default w ↦ absurd (cc)
   ];
@@ -87,9 +90,6 @@ returns-in_err-push-clause-grows g c = (c.loop-made.invariant.shifting c.require
 
 pub returns-in_err-push-clause-owns : goal.returns-in_err-push-clause-owns
 returns-in_err-push-clause-owns g c = (c.loop-made.invariant.shifting c.requires.ready.0 c.requires.ready.1).goes.branches
-
-pub returns-clause-goes_on : goal.returns-clause-goes_on
-returns-clause-goes_on g c j ready = (c.loop-made.invariant.shifting j ready).goes
 
 pub returns-clause-shifts : goal.returns-clause-shifts
 returns-clause-shifts g c j ready =

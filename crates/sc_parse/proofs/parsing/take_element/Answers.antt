@@ -15,12 +15,13 @@ pub loop-number-init : goal.loop-number-init
 loop-number-init g c =
     let gives = c.into_iter-number-iterator.ensures.into_iter_gives in
     let at = c.take-row.ensures.taken c.args.steps.now.core.subparsers c.requires.filed.filed in
+    let shifted = c.in_ok-number-items.ensures.shifts c.args.at at in
     record {
       put =
           rw gives.0
           (turn-begins _ _ _ _ c.args.steps.now _ c.args.rows.now c.take-row.new.self c.args.at _ _ c.requires.own c.requires.filed c.take-row.ensures.numbers
           (c.take-row.ensures.filed c.args.steps.now.core.subparsers c.requires.filed.filed) (c.take-row.ensures.done c.requires.filed.done) c.take-row.ensures.long c.take-row.ensures.branches
-          (c.in_ok-number-items.ensures.goes_on c.args.at at) c.in_ok-number-items.ensures.replaces (c.in_ok-number-items.ensures.between c.args.at at));
+          shifted.goes_on shifted.replaces shifted.behind);
       count = omega (arith, gives.1, ap length gives.0, c.in_ok-number-items.number-items.ok.0);
     }
 

@@ -8,7 +8,10 @@ use Rattle.sc_fork.specs.Enabled.{Has}
 use Rattle.sc_grammar.specs.Production.{production_of}
 use Rattle.sc_merge.specs.declared.subparser.Subparser.{Subparser}
 use Rattle.sc_model.proofs.SetLemmas.{Keeps-trans}
-use Rattle.sc_parse.proofs.WeightLemmas.{alone-lower, alone-moves, alone-next, alone-ready, first-alone, HasReduced, made-few, none-made, one-made, rank-falls, reduced-first, reducing-one, reduction-enabled, reduction-number}
+use Rattle.sc_fork.specs.declared.event.Event.TheVariants.{Reduce}
+use Rattle.sc_parse.proofs.NumberLemmas.{event-replaces}
+use Rattle.sc_parse.specs.Runs.{StandsBefore}
+use Rattle.sc_parse.proofs.WeightLemmas.{alone-lower, alone-moves, alone-next, alone-ready, at-number, first-alone, HasReduced, made-few, none-made, one-each, one-made, rank-falls, reduced-first, reducing-one, reduction-enabled, reduction-number}
 use Rattle.sc_parse.specs.Numbers.{Each, IsAt, IsReady, Replaces}
 use Rattle.sc_parse.specs.Weights.{IsReducing, IsWeighed}
 use Rattle.sc_parse.proofs.reductions.reduced_alone.Goals as goal
@@ -28,24 +31,28 @@ reduces g c =
 
 -- what the reduction makes of it
 once : (g : _) (c : In_ok-made g)
-    → HasReduced (g.C.Conditions.sets c.loop-rule.conds) (g.C.Conditions.sets c.apply.new.conds) c.loop-rule.trees c.apply.new.trees c.loop-rule.steps c.apply.new.self c.loop-rule.number []
+    → HasReduced (g.C.Conditions.sets c.loop-rule.conds) (g.C.Conditions.sets c.apply.new.conds) c.loop-rule.trees c.apply.new.trees c.loop-rule.steps c.apply.new.self (c.loop-rule.number ∷ []) []
     c.production-production.result.left.0 c.in_ok-made.made.items []
 once g c =
     let at = c.loop-rule in
-    reduced-first (g.C.Conditions.sets at.conds) (g.C.Conditions.sets c.apply.new.conds) at.trees c.apply.new.trees at.steps c.apply.new.self at.number c.in-Some.rule
-    (production_of c.production-production.result) [] c.in_ok-made.made.items at.invariant.own at.invariant.branches at.invariant.numbers c.requires.at.0
-    (at.invariant.moves c.requires.at.0 c.requires.at.1).at (All-nil (IsWeighed at.steps.core.source at.steps.core.subparsers))
-    (reducing-one at.steps.core.source at.steps.core.subparsers at.number c.requires.at.0 c.in-Some.rule [] (at.invariant.moves c.requires.at.0 c.requires.at.1).at
-    (λ s has phase. c.in-Some.ensures.some s c.requires.at.0 (record { has = has; phase = phase })))
-    c.production-production.ensures c.in_ok-made.ensures.made c.in_ok-made.ensures.goes_on
+    let rows = at.steps.core.subparsers in
+    let each = (at.invariant.moves c.requires.at.0 c.requires.at.1).at in
+    let reducing = reducing-one at.steps.core.source rows at.number c.requires.at.0 c.in-Some.rule [] each
+    (λ s has phase. c.in-Some.ensures.some s c.requires.at.0 (record { has = has; phase = phase })) in
+    reduced-first (g.C.Conditions.sets at.conds) (g.C.Conditions.sets c.apply.new.conds) at.trees c.apply.new.trees at.steps c.apply.new.self (at.number ∷ []) c.in-Some.rule
+    (production_of c.production-production.result) [] c.in_ok-made.made.items at.invariant.own at.invariant.branches at.invariant.numbers c.requires.at.0 each
+    (All-nil (IsWeighed at.steps.core.source rows)) c.production-production.ensures
+    (event-replaces at.steps.core c.apply.new.self.core (Reduce at.number) c.in_ok-made.made.items c.in_ok-made.ensures.made at.invariant.numbers)
+    (one-each at.steps.core c.apply.new.self.core at.number c.in-Some.rule c.in_ok-made.made.items c.in_ok-made.ensures.made reducing)
+    (λ place before. c.in_ok-made.ensures.goes_on place (λ s has. at-number (StandsBefore place) rows at.number [] s has before))
 
 pub production-production-requires-clause-first : goal.production-production-requires-clause-first
 production-production-requires-clause-first g c =
-    (reduction-number (g.C.Conditions.sets c.loop-rule.conds) (length c.loop-rule.trees) c.loop-rule.steps c.loop-rule.number c.in-Some.rule c.loop-rule.invariant.own (reduces g c)).0
+    (reduction-number (g.C.Conditions.sets c.loop-rule.conds) (length c.loop-rule.trees) c.loop-rule.steps (c.loop-rule.number ∷ []) c.in-Some.rule c.loop-rule.invariant.own (omega arith) (reduces g c)).0
 
 pub production-production-requires-clause-last : goal.production-production-requires-clause-last
 production-production-requires-clause-last g c =
-    (reduction-number (g.C.Conditions.sets c.loop-rule.conds) (length c.loop-rule.trees) c.loop-rule.steps c.loop-rule.number c.in-Some.rule c.loop-rule.invariant.own (reduces g c)).1
+    (reduction-number (g.C.Conditions.sets c.loop-rule.conds) (length c.loop-rule.trees) c.loop-rule.steps (c.loop-rule.number ∷ []) c.in-Some.rule c.loop-rule.invariant.own (omega arith) (reduces g c)).1
 
 pub prove-unreachable-requires : goal.prove-unreachable-requires
 prove-unreachable-requires g c = elim c.if-production-gt1.branch [
