@@ -172,7 +172,7 @@ not-refused source rows kinds.Shift _ _ _ (can_shift n j s has phase never) refu
         never p (cc)
 
 -- a subparser that the event does not name has its number still
-kept-row : (rows : List (Option Subparser)) (more : List (Option Subparser)) (n m : ℕ) (s : Subparser) → (n ≡ m → ⊥) → Has rows m s → Has (slice_set rows n None ++ more) m s
+pub kept-row : (rows : List (Option Subparser)) (more : List (Option Subparser)) (n m : ℕ) (s : Subparser) → (n ≡ m → ⊥) → Has rows m s → Has (slice_set rows n None ++ more) m s
 kept-row [] more n m s other has = absurd (cc)
 kept-row (row ∷ rows) more zero zero s other has = absurd (other refl)
 kept-row (row ∷ rows) more zero (suc m) s other has = front rows m has

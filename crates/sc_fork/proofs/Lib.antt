@@ -5,6 +5,7 @@ pub mod EnabledLemmas
 pub mod GrowLemmas
 pub mod KindLemmas
 pub mod MarkLemmas
+pub mod NodeLemmas
 pub mod NumberLemmas
 pub mod OutcomeLemmas
 pub mod OwnLemmas

@@ -15,6 +15,7 @@ use Rattle.sc_fork.specs.declared.source.Source.{Source}
 use Rattle.sc_fork.specs.Choices.{AddsLeaves, AreSound}
 use Rattle.sc_fork.specs.Cores.{IsApplied, IsCore, event_of}
 use Rattle.sc_fork.specs.Enabled.{IsEnabled, IsRefused}
+use Rattle.sc_fork.specs.Nodes.{AddsNode}
 use Rattle.sc_fork.specs.Owns.{OwnsCore}
 use Rattle.sc_fork.specs.Pieces.{HasMade}
 use Rattle.sc_fork.specs.View.{View}
@@ -68,6 +69,7 @@ pub record IsDone (old new : Sets) (lines added : List Line) (before : View) (ev
       → IsApplied (tables_with old lines names files) (tables_with new added names files) input before event after made seen
   pub rows : HasMade before event after made
   pub choices : KeepsSound old new lines added before
+  pub adds : (n : ℕ) → event ≡ Reduce n → AddsNode before n lines added
   pub leads : Leads old new lines added before after
   pub own : OwnsCore new (length added) after
   pub branches : OwnsBranches new added

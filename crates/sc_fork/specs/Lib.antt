@@ -3,6 +3,7 @@ pub mod Choices
 pub mod Cores
 pub mod Enabled
 pub mod Kinds
+pub mod Nodes
 pub mod Outcomes
 pub mod Owns
 pub mod Parsers

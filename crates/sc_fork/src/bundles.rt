@@ -1,5 +1,5 @@
 //! An event of several subparsers, one after the other.
-ghost use Rattle.std.specs.Prelude.{◌≡◌, ◌↔◌, ◌⊎◌, ℕ, true, false, Err, List, IfErr, IfOk, OnErr, length};
+ghost use Rattle.std.specs.Prelude.{◌≡◌, ◌↔◌, ◌⊎◌, ℕ, true, false, All, Err, List, IfErr, IfOk, OnErr, length};
 ghost use Rattle.c11_parsing.specs.Classes.{Input};
 ghost use Rattle.c11_parsing.specs.Core as core;
 ghost use Rattle.c11_parsing.specs.Core.{Stands};
@@ -9,11 +9,13 @@ ghost use Rattle.sc_fork.specs.Bundles.{AreApplied, AreDone, IsDone, IsFirstRefu
 ghost use Rattle.sc_fork.specs.Choices.{AddsLeaves, AreSound};
 ghost use Rattle.sc_fork.specs.Cores.{IsCore};
 ghost use Rattle.sc_fork.specs.Enabled.{IsEnabled};
+ghost use Rattle.sc_fork.specs.Nodes.{AddsNode, IsNodeBy, ReducesBy};
 ghost use Rattle.sc_fork.specs.Owns.{OwnsCore};
 ghost use Rattle.sc_merge.specs.Merges.{tables_with};
 ghost use Rattle.sc_model.specs.Growth.{Extends};
 ghost use Rattle.sc_model.specs.Sets.{Keeps};
-ghost use Rattle.sc_tree.specs.Lines.{OwnsBranches};
+ghost use Rattle.sc_stack.specs.Entries.{Entry};
+ghost use Rattle.sc_tree.specs.Lines.{AddsAtMost, Line, OwnsBranches};
 
 use crate::event::{Applied, CoreStop, Kind};
 use crate::fork::Core;
@@ -48,6 +50,8 @@ impl Core<'_> {
         ensures unchanged { IfErr result (λ stop. (stop ≡ CoreStop.OutOfMemory → ⊥) → self.new ≡ self.old) }
 
         // at every outcome
+        ensures one_node { (p : ℕ) (stack : List Entry) (line : Line) → kind ≡ Kind.Reduce
+            → All (ReducesBy self.old.source self.old.subparsers p stack) members.now → IsNodeBy p stack line → AddsAtMost trees.old trees.new line }
         ensures choices { KeepsSound (C.sets conds.old) (C.sets conds.new) trees.old trees.new self.old }
         ensures leads { Leads (C.sets conds.old) (C.sets conds.new) trees.old trees.new self.old self.new }
         ensures own { OwnsCore (C.sets conds.new) (length trees.new) self.new }
@@ -85,6 +89,7 @@ impl Core<'_> {
         ensures given_up { OnErr result (self.new.is_given_up ≡ true) }
 
         // at every outcome
+        ensures adds { kind ≡ Kind.Reduce → AddsNode self.old number trees.old trees.new }
         ensures choices { KeepsSound (C.sets conds.old) (C.sets conds.new) trees.old trees.new self.old }
         ensures leads { Leads (C.sets conds.old) (C.sets conds.new) trees.old trees.new self.old self.new }
         ensures own { OwnsCore (C.sets conds.new) (length trees.new) self.new }

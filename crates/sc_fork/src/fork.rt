@@ -10,6 +10,7 @@ ghost use Rattle.sc_fork.specs.Bundles.{AreEnabled, IsFirstRefused};
 ghost use Rattle.sc_fork.specs.Choices.{AddsLeaves, AreSound};
 ghost use Rattle.sc_fork.specs.Cores.{IsApplied, IsCore, IsFinished, Starts};
 ghost use Rattle.sc_fork.specs.Enabled.{Has, HasNone, IsEnabled, IsRefused, LooksAt};
+ghost use Rattle.sc_fork.specs.Nodes.{AddsNode, AddsOwnNode};
 ghost use Rattle.sc_fork.specs.Outcomes.{IsOutcome, OwnsOutcome};
 ghost use Rattle.sc_fork.specs.Owns.{HasC11Tables, AreNumbered, AreTerminals, IsFirst, IsNumbered, OwnsCore, OwnsEnabled, OwnsPiece, IsSource};
 ghost use Rattle.sc_fork.specs.Pieces.{AddsOwnChoices, AreInOrder, AreMade, HasMade, InNextPhase, IsPlaced, numbers_of, without};
@@ -133,6 +134,7 @@ impl<'a> Core<'a> {
             → Stands input seen → AreSound (C.sets conds.old) trees.old → AreSound (C.sets conds.new) trees.new }
 
         // at every outcome
+        ensures adds { (number : ℕ) → event ≡ Event.Reduce number → AddsNode self.old number trees.old trees.new }
         ensures leaves { AddsLeaves self.old.source.list.now trees.old trees.new }
         ensures source { self.new.source ≡ self.old.source }
         ensures own { OwnsCore (C.sets conds.new) (length trees.new) self.new }
@@ -340,6 +342,7 @@ fn pieces_of<C: Conditions>(
 
     // at every outcome
     ensures choices { AddsOwnChoices trees.old trees.new enabled.entry }
+    ensures adds { AddsOwnNode trees.old trees.new enabled.entry }
     ensures leaves { AddsLeaves source.now.list.now trees.old trees.new }
     ensures keeps { Keeps (C.sets conds.old) (C.sets conds.new) }
     ensures grows { Extends trees.old trees.new }

@@ -7,6 +7,7 @@ ghost use Rattle.lr_tables.specs.declared.grammar.Action.TheVariants.{Reduce};
 ghost use Rattle.sc_base.specs.declared.id.Cond.{Cond};
 ghost use Rattle.sc_base.specs.declared.token.Token.{Token};
 ghost use Rattle.sc_fork.specs.Choices.{AddsLeaves, AddsNoChoices};
+ghost use Rattle.sc_fork.specs.Nodes.{AddsOnce, IsNodeBy};
 ghost use Rattle.sc_fork.specs.Owns.{IsNumbered, IsSource, OwnsPiece, OwnsRow};
 ghost use Rattle.sc_fork.specs.Pieces.{IfGoing, IsReducedBy};
 ghost use Rattle.sc_fork.specs.Reducing.{BindsUnder, IsValueOf, Rebinds};
@@ -19,7 +20,8 @@ ghost use Rattle.sc_scope.specs.Numbered.{levels_made, HasNumbers};
 ghost use Rattle.sc_scope.specs.Search.{OwnsLevels};
 ghost use Rattle.sc_scope.specs.Seen.{levels_in};
 ghost use Rattle.sc_scope.specs.Shows.{kind_of};
-ghost use Rattle.sc_tree.specs.Lines.{OwnsBranches};
+ghost use Rattle.sc_tree.specs.Lines.{Line, OwnsBranches, node};
+ghost use Rattle.std.specs.List.{filter_map};
 
 use crate::piece::Piece;
 use crate::shifting::{present, refused};
@@ -57,6 +59,7 @@ pub(crate) fn reduce<C: Conditions>(
     ensures numbered { IfOk result (IsNumbered numbers.new) }
 
     // at every outcome
+    ensures adds { (line : Line) → IsNodeBy number parent.now.stack line → AddsOnce trees.old trees.new line }
     ensures choices { AddsNoChoices trees.old trees.new }
     ensures leaves { (list : List (Cond × Token)) → AddsLeaves list trees.old trees.new }
     ensures keeps { Keeps (C.sets conds.old) (C.sets conds.new) }
@@ -107,6 +110,7 @@ fn value_of(
     ensures own { IfOk result (λ value. IfSome value (λ id. id.0 < length trees.new)) }
 
     // at every outcome
+    ensures adds { AddsOnce trees.old trees.new (node number (filter_map (λ value. value) values.now)) }
     ensures choices { AddsNoChoices trees.old trees.new }
     ensures leaves { (list : List (Cond × Token)) → AddsLeaves list trees.old trees.new }
     ensures grows { Extends trees.old trees.new }

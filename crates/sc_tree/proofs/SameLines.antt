@@ -1,8 +1,9 @@
 -- `==` on lines tells them apart.
-use Rattle.std.proofs.Common.{◌≡◌, ◌==◌, ◌&&◌, Bool, true, false, List, [], ◌∷◌, refl}
+use Rattle.std.proofs.Common.{◌≡◌, ℕ, ◌==◌, subst, rules, ◌&&◌, Bool, true, false, List, [], ◌∷◌, refl}
 use Rattle.std.specs.Cmp.Lexicographic.{pointwise}
 use Rattle.std.proofs.lemmas.Bool.{false≢true, eqb-true}
 use Rattle.sc_base.specs.declared.id.Cond.{Cond}
+use Rattle.sc_base.specs.declared.id.Name.{Name}
 use Rattle.sc_base.specs.declared.id.TreeId.{TreeId}
 use Rattle.sc_base.specs.declared.place.Place.{Place}
 use Rattle.sc_base.specs.contracts.place.PlacePartialEq.TheImpl as place
@@ -68,3 +69,46 @@ same_line (Choice n) (Node q m) told = absurd (false≢true told)
 same_line (Choice n) (Choice m) told =
     let branches = same_branches n.items m.items told in
     λ i. choice (branches i)
+
+-- ---- the same lines are told to be
+
+both_told : (x y : Bool) → x ≡ true → y ≡ true → (x && y) ≡ true
+both_told x y first second = rw (first, second)
+
+told : (n : ℕ) → (n == n) ≡ true
+told n = search rules
+
+told_place : (p : Place) → place.eq-value.it p p ≡ true
+told_place p = both_told (p.file.0 == p.file.0) ((p.line == p.line) && (p.column == p.column)) (told p.file.0) (both_told (p.line == p.line) (p.column == p.column) (told p.line) (told p.column))
+
+told_children : (xs : List TreeId) → pointwise (λ (a b : TreeId). a.0 == b.0) xs xs ≡ true
+told_children [] = refl
+told_children (x ∷ xs) = both_told (x.0 == x.0) (pointwise (λ (a b : TreeId). a.0 == b.0) xs xs) (told x.0) (told_children xs)
+
+told_branches : (xs : List (Cond × TreeId)) → pointwise (λ (a b : Cond × TreeId). (a.0.0 == b.0.0) && (a.1.0 == b.1.0)) xs xs ≡ true
+told_branches [] = refl
+told_branches (x ∷ xs) =
+    both_told ((x.0.0 == x.0.0) && (x.1.0 == x.1.0)) (pointwise (λ (a b : Cond × TreeId). (a.0.0 == b.0.0) && (a.1.0 == b.1.0)) xs xs)
+    (both_told (x.0.0 == x.0.0) (x.1.0 == x.1.0) (told x.0.0) (told x.1.0)) (told_branches xs)
+
+pub told_line : (a b : kept.Line) → line_of a ≡ line_of b → line.eq-value.it a b ≡ true
+told_line (Leaf p n) (Leaf q m) same =
+    let at : p ≡ q = cc in
+    let name : n ≡ m = cc in
+    subst (λ (x : Place). (place.eq-value.it p x && (n.0 == m.0)) ≡ true) at
+    (subst (λ (x : Name). (place.eq-value.it p p && (n.0 == x.0)) ≡ true) name (both_told (place.eq-value.it p p) (n.0 == n.0) (told_place p) (told n.0)))
+told_line (Leaf p n) (Node q m) same = absurd (cc)
+told_line (Leaf p n) (Choice m) same = absurd (cc)
+told_line (Node p n) (Leaf q m) same = absurd (cc)
+told_line (Node p n) (Node q m) same =
+    let production : p ≡ q = cc in
+    let children : n.items ≡ m.items = cc in
+    subst (λ (x : ℕ). ((p == x) && pointwise (λ (a b : TreeId). a.0 == b.0) n.items m.items) ≡ true) production
+    (subst (λ (xs : List TreeId). ((p == p) && pointwise (λ (a b : TreeId). a.0 == b.0) n.items xs) ≡ true) children
+    (both_told (p == p) (pointwise (λ (a b : TreeId). a.0 == b.0) n.items n.items) (told p) (told_children n.items)))
+told_line (Node p n) (Choice m) same = absurd (cc)
+told_line (Choice n) (Leaf q m) same = absurd (cc)
+told_line (Choice n) (Node q m) same = absurd (cc)
+told_line (Choice n) (Choice m) same =
+    let branches : n.items ≡ m.items = cc in
+    subst (λ (xs : List (Cond × TreeId)). pointwise (λ (a b : Cond × TreeId). (a.0.0 == b.0.0) && (a.1.0 == b.1.0)) n.items xs ≡ true) branches (told_branches n.items)

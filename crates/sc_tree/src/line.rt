@@ -22,7 +22,8 @@ pub enum TreeView<'a> {
 
 /// Whether the lines are the same.
 pub(crate) fn is_same(a: &Line, b: &Line) -> bool
-    ensures { result ≡ true → line_of a.now ≡ line_of b.now }
+    ensures same { result ≡ true → line_of a.now ≡ line_of b.now }
+    ensures told { line_of a.now ≡ line_of b.now → result ≡ true }
 {
     a == b
 }

@@ -1,4 +1,4 @@
-ghost use Rattle.std.specs.Prelude.{◌≡◌, ◌<◌, ℕ, List, [], ◌∷◌, ◌++◌, Some, All, length, slice_get, IfSome, IfOk, IfErr, OnOk, OnErr};
+ghost use Rattle.std.specs.Prelude.{◌≡◌, ◌↔◌, ◌<◌, ◌-◌, ℕ, true, None, List, [], ◌∷◌, ◌++◌, Some, All, length, slice_get, IfSome, IfOk, IfErr, OnOk, OnErr};
 ghost use Rattle.c11_parsing.specs.Bindings.{declared, parameters_below};
 ghost use Rattle.c11_parsing.specs.C11.{c11_declarators};
 ghost use Rattle.c11_parsing.specs.Trees.{Tree};
@@ -98,8 +98,8 @@ impl Trees {
         self.put_shared(key, Line::Leaf(place, spelling))
     }
 
-    /// A node of a production with these children from left to right: that which such a call gave
-    /// before, or else a new one.
+    /// A node of a production with these children from left to right: the last tree where that is
+    /// one, or that which such a call gave before, or else a new one.
     pub fn shared_node(
         &mut self,
         production: usize,
@@ -112,6 +112,7 @@ impl Trees {
         ensures err { OnErr result (self.new ≡ self.old) }
 
         // at every outcome
+        ensures last { slice_get self.old (length self.old - 1) ≡ Some (node production children.now) → self.new ≡ self.old }
         ensures grows { Extends self.old self.new }
         ensures first { ChildrenFirst self.new }
     {
@@ -203,17 +204,30 @@ impl Trees {
         let _lines = &self.lines;
     }
 
-    /// The tree that a call for a shared one gave.
+    /// The last tree where it is this, or the tree that a call for a shared one gave.
     fn known(&self, line: &Line) -> Option<TreeId>
         ensures own { IfSome result (λ id. id.0 < length self.now) }
         ensures named { IfSome result (λ id. slice_get self.now id.0 ≡ Some (line_of line.now)) }
+        ensures last { result ≡ None → slice_get self.now (length self.now - 1) ≡ Some (line_of line.now) → ⊥ }
         ensures first { ChildrenFirst self.now }
     {
+        if self.is_last(line) {
+            return Some(TreeId(self.lines.len() - 1));
+        }
         let id = *self.shared.get(line)?;
         if id.0 < self.lines.len() && is_same(&self.lines[id.0], line) {
             Some(id)
         } else {
             None
+        }
+    }
+
+    fn is_last(&self, line: &Line) -> bool
+        ensures { (result ≡ true) ↔ (slice_get self.now (length self.now - 1) ≡ Some (line_of line.now)) }
+    {
+        match self.lines.last() {
+            Some(last) => is_same(last, line),
+            None => false,
         }
     }
 

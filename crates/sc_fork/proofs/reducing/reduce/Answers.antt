@@ -1,7 +1,8 @@
-use Rattle.std.proofs.Common.{◌≡◌, ◌∙◌, ◌<◌, ◌∷◌, List, Option, IfSome, All, take, drop, reverse, length, sym, ap, subst}
+use Rattle.std.proofs.Common.{◌≡◌, ◌∙◌, ◌<◌, ◌∷◌, List, Option, IfSome, All, take, drop, reverse, length, refl, sym, ap, subst}
 use Rattle.sc_base.specs.declared.id.TreeId.{TreeId}
 use Rattle.sc_fork.specs.Reducing.{IsValueOf}
 use Rattle.sc_fork.proofs.ChoiceLemmas.{adds-branches}
+use Rattle.sc_fork.proofs.NodeLemmas.{adds-node, adds-none}
 use Rattle.sc_fork.proofs.PieceLemmas.{if-made}
 use Rattle.sc_fork.proofs.ReduceEvents.{in-range, never-refused, taken-own, branches-Keeps, IsReduced, is-reduced}
 use Rattle.sc_grammar.specs.Production.{production_of}
@@ -81,3 +82,34 @@ returns-clause-numbered g c = if-made _ c.going.result _ c.going.ensures c.in_ok
 
 pub returns-clause-branches : goal.returns-clause-branches
 returns-clause-branches g c = branches-Keeps _ _ _ c.marked_scopes.ensures.keeps (adds-branches _ c.args.trees.now _ c.value_of.ensures.choices c.requires.branches)
+
+-- ---- what is added
+
+pub returns-in_err-stack-clause-adds : goal.returns-in_err-stack-clause-adds
+returns-in_err-stack-clause-adds g c = λ line by. adds-none _ _ _ refl
+
+pub returns-in_err-values-clause-adds : goal.returns-in_err-values-clause-adds
+returns-in_err-values-clause-adds g c = λ line by. adds-none _ _ _ refl
+
+pub returns-in_default-clause-adds : goal.returns-in_default-clause-adds
+returns-in_default-clause-adds g c = λ line by. adds-none _ _ _ refl
+
+pub returns-in_err-value-clause-adds : goal.returns-in_err-value-clause-adds
+returns-in_err-value-clause-adds g c =
+    adds-node c.args.number _ _ _ _ _ (production_of c.production-rule.result) _ _ c.production-rule.ensures c.size.ensures (c.in_ok-stack.ensures ∙ ap (λ (p : Subparser). p.stack) c.parent.view_is)
+    c.in_ok-values.ensures.values c.deref.ensures.value c.value_of.ensures.adds
+
+pub returns-in_err-push-clause-adds : goal.returns-in_err-push-clause-adds
+returns-in_err-push-clause-adds g c =
+    adds-node c.args.number _ _ _ _ _ (production_of c.production-rule.result) _ _ c.production-rule.ensures c.size.ensures (c.in_ok-stack.ensures ∙ ap (λ (p : Subparser). p.stack) c.parent.view_is)
+    c.in_ok-values.ensures.values c.deref.ensures.value c.value_of.ensures.adds
+
+pub returns-in_err-scopes-clause-adds : goal.returns-in_err-scopes-clause-adds
+returns-in_err-scopes-clause-adds g c =
+    adds-node c.args.number _ _ _ _ _ (production_of c.production-rule.result) _ _ c.production-rule.ensures c.size.ensures (c.in_ok-stack.ensures ∙ ap (λ (p : Subparser). p.stack) c.parent.view_is)
+    c.in_ok-values.ensures.values c.deref.ensures.value c.value_of.ensures.adds
+
+pub returns-clause-adds : goal.returns-clause-adds
+returns-clause-adds g c =
+    adds-node c.args.number _ _ _ _ _ (production_of c.production-rule.result) _ _ c.production-rule.ensures c.size.ensures (c.in_ok-stack.ensures ∙ ap (λ (p : Subparser). p.stack) c.parent.view_is)
+    c.in_ok-values.ensures.values c.deref.ensures.value c.value_of.ensures.adds

@@ -5,6 +5,7 @@ use Rattle.sc_fork.proofs.NumberLemmas.{rows-numbered}
 use Rattle.sc_scope.specs.Numbered.{HasNumbers}
 use Rattle.sc_fork.proofs.PhaseLemmas.{makes}
 use Rattle.sc_fork.proofs.CoreLemmas.{applied}
+use Rattle.sc_fork.proofs.NodeLemmas.{adds-event, adds-none}
 use Rattle.sc_fork.proofs.OwnLemmas.{each-is, numbers-within, owns-after}
 use Rattle.sc_fork.proofs.ReplaceLemmas.{becomes}
 use Rattle.sc_fork.proofs.SoundLemmas.{choices-sound}
@@ -87,3 +88,27 @@ returns-clause-rows g c =
       makes = makes core.source core.rows.items c.args.event c.in-Ok.enabled c.in-Ok-pieces.pieces.items can c.in-Ok-pieces.ensures.phases c.in-Ok-pieces.ensures.order;
       becomes = becomes _ _ c.args.event c.in-Ok-pieces.pieces.items c.in-Ok-replace.made.items c.in-Ok-replace.ensures;
     })
+
+pub returns-then-self-clause-adds : goal.returns-then-self-clause-adds
+returns-then-self-clause-adds g c = λ number is p stack line by made. adds-none _ _ _ refl
+
+pub returns-in-Err-clause-adds : goal.returns-in-Err-clause-adds
+returns-in-Err-clause-adds g c = λ number is p stack line by made. adds-none _ _ _ refl
+
+pub returns-in_default-clause-adds : goal.returns-in_default-clause-adds
+returns-in_default-clause-adds g c =
+    let core = c.self.inside in
+    let can = rw c.deref.ensures.value at c.in-Ok.ensures.ok in
+    rw (← c.self.view_is) (adds-event core.source core.rows.items c.args.event c.in-Ok.enabled _ _ can c.pieces_of-pieces.ensures.adds)
+
+pub returns-in_default-replace-clause-adds : goal.returns-in_default-replace-clause-adds
+returns-in_default-replace-clause-adds g c =
+    let core = c.self.inside in
+    let can = rw c.deref.ensures.value at c.in-Ok.ensures.ok in
+    rw (← c.self.view_is) (adds-event core.source core.rows.items c.args.event c.in-Ok.enabled _ _ can c.pieces_of-pieces.ensures.adds)
+
+pub returns-clause-adds : goal.returns-clause-adds
+returns-clause-adds g c =
+    let core = c.self.inside in
+    let can = rw c.deref.ensures.value at c.in-Ok.ensures.ok in
+    rw (← c.self.view_is) (adds-event core.source core.rows.items c.args.event c.in-Ok.enabled _ _ can c.pieces_of-pieces.ensures.adds)

@@ -1,7 +1,7 @@
 use Rattle.std.proofs.Common.{Err, inl, subst, ap, sym, ◌∙◌}
 use Rattle.std.proofs.lemmas.Bool.{true≢false}
 use Rattle.sc_fork.proofs.BundleLemmas.{is-memory, not-refused, still-usable}
-use Rattle.sc_fork.specs.Bundles.{IsDone}
+use Rattle.sc_fork.specs.Bundles.{IsDone, event_by}
 use Rattle.sc_fork.proofs.fork.Core.do_one.Goals as goal
 
 pub returns-in-Ok-clause-done : goal.returns-in-Ok-clause-done
@@ -12,6 +12,7 @@ returns-in-Ok-clause-done g c =
       applied = c.in-Ok.ensures.applied;
       rows = c.in-Ok.ensures.rows;
       choices = c.apply.ensures.choices;
+      adds = c.apply.ensures.adds;
       leads = record { leaves = c.apply.ensures.leaves; source = c.apply.ensures.source; keeps = c.apply.ensures.keeps; grows = c.apply.ensures.grows };
       own = c.apply.ensures.own;
       branches = c.apply.ensures.branches;
@@ -26,3 +27,9 @@ returns-in-Err-clause-given_up g c =
     (inl (ap Err (is-memory c.in-Err.field-0
     (λ fact is. not-refused core.source core.subparsers c.args.kind c.args.number can.0 fact can.1 (rw c.event.ensures at (c.in-Err.ensures.not_enabled fact (ap Err is))))
     (λ is. true≢false (sym (c.in-Err.ensures.given_up.0 (ap Err is)) ∙ c.requires.usable)))))
+
+pub returns-in-Ok-clause-adds : goal.returns-in-Ok-clause-adds
+returns-in-Ok-clause-adds g c = λ is. c.apply.ensures.adds c.args.number (c.event.ensures ∙ ap (λ kind. event_by kind c.args.number) is)
+
+pub returns-in-Err-clause-adds : goal.returns-in-Err-clause-adds
+returns-in-Err-clause-adds g c = λ is. c.apply.ensures.adds c.args.number (c.event.ensures ∙ ap (λ kind. event_by kind c.args.number) is)
