@@ -1,4 +1,6 @@
 pub mod DecidesLaws
+pub mod IfLines
+pub mod ListedLaws
 pub mod NestLaws
 pub mod PreLaws
 pub mod Nesting

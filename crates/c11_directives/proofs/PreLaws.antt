@@ -289,7 +289,7 @@ module _ {x : Context} where
   decides-as (no_name fault (inr named) operand at) = rw (named, operand) (ap Err (refused-is at))
   decides-as (expression hash answer asked is d) = rw asked (evaluated hash answer is d)
 
-  decides-sole : {s : State} {l : Line} {r : Result Bool Fault} → Decides x s l r → Sole (Decides x s l) r
+  pub decides-sole : {s : State} {l : Line} {r : Result Bool Fault} → Decides x s l r → Sole (Decides x s l) r
   decides-sole {s} {l} {r} d q e = decides-as-sole s l (test_of l) r (decides-as d) q (decides-as e)
 
   steps-does : {l : Line} {s : State} {r : Result State Fault} → Steps x l s r → DoesLine x l s l.directive r

@@ -37,9 +37,9 @@ use Rattle.c11_tokens.specs.Lex.{Lexed}
 use Rattle.sc_model.specs.Token.{Lexeme, Place, Position, Token, in_file}
 
 -- finitely many names are defined
-record AreFinite (macros : Macros) : Type 0 where
-  names : List (List ℕ)
-  within : IsWithin names macros
+pub record AreFinite (macros : Macros) : Type 0 where
+  pub names : List (List ℕ)
+  pub within : IsWithin names macros
 
 -- a walk goes on from here: finitely many names are defined, and the files are nested so deep
 record GoesOn (depth : ℕ) (s : State) : Type 0 where
@@ -120,7 +120,7 @@ own_names space = map (λ (m : List ℕ × Definition). m.0) (predefined_macros 
 abbrev other_names : Space → List (List ℕ)
 other_names space = map (λ (v : Variable). v.name) space.variables
 
-initial-finite : (space : Space) (config : List ℕ) → AreFinite (initial_macros space config)
+pub initial-finite : (space : Space) (config : List ℕ) → AreFinite (initial_macros space config)
 initial-finite space config =
     record { names = own_names space ++ other_names space; within = record { each = λ name d at. by name d (definition_named (predefined_macros space.date space.time) name) refl at } }
   where

@@ -5,7 +5,8 @@ use Rattle.c11_directives.specs.declared.directive.Directive.{Directive}
 use Rattle.c11_directives.specs.declared.directive.Test.TheVariants.{Expression}
 use Rattle.c11_directives.specs.Behind.{begins_with_header, behind_name}
 use Rattle.c11_directives.specs.Lines.{Line, hash_of, test_of}
-use Rattle.c11_directives.specs.Pre.{Closes, State, is_barrier, is_said}
+use Rattle.c11_directives.specs.Listed.{IsListed, IsValidLine}
+use Rattle.c11_directives.specs.Pre.{Closes, State, initial_state, is_barrier, is_said}
 use Rattle.c11_directives.specs.Reaches.{Moment, Reaches, at_end, at_head, at_line}
 use Rattle.c11_expressions.specs.Grammar.{Symbol}
 use Rattle.c11_expressions.specs.Lines.{without_defined}
@@ -129,10 +130,23 @@ pub record MomentsHave (reaches : List Place → Moment → Type 0) (f : SourceF
   pub has : MomentHas moment (f.0.spot, f.1)
 
 -- a configuration has this footprint somewhere in what is preprocessed
-abbrev pub Has : Space → Files → (main config : List ℕ) → SourceFootprint → Type 0
-Has space files main config f = MomentsHave (Reaches space files main config) f
+abbrev pub FilesHave : Space → Files → (main config : List ℕ) → SourceFootprint → Type 0
+FilesHave space files main config f = MomentsHave (Reaches space files main config) f
 
--- At least so many of the listed configurations have something each at one place, no two the same.
+-- it has it in the line that says whether it is valid, before any file
+pub record ValidHas (space : Space) (config : List ℕ) (f : SourceFootprint) : Type 0 where
+  pub line : Line
+  pub is_line : IsValidLine space line
+  pub outside : f.0.chain ≡ []
+  pub has : MomentHas (at_head line (initial_state space [] config)) (f.0.spot, f.1)
+
+-- All configurations come to the line that says which are valid, and those that are listed to what
+-- is preprocessed.
+pub data Has (space : Space) (files : Files) (main config : List ℕ) (f : SourceFootprint) : Type 0 where
+  of_valid : ValidHas space config f → Has space files main config f
+  of_files : IsListed space config → FilesHave space files main config f → Has space files main config f
+
+-- At least so many of these configurations have something each at one place, no two the same.
 pub record HasFootprints {K V : Type 0} (is_listed : List ℕ → Type 0) (has : List ℕ → K × V → Type 0) (count : ℕ) : Type 0 where
   pub at : K
   pub footprints : List (List ℕ × V)

@@ -1,9 +1,11 @@
 //! Laws about the definitions, each the contract of a function without code.
 ghost use Rattle.std.specs.Prelude.{Bool, List, ℕ, ◌≡◌, Result, Some};
 ghost use Rattle.c11_directives.specs.Lines.{Group, Line, Tree, hash_of, lines_of, test_of};
+ghost use Rattle.c11_directives.specs.Listed.{SaysValid};
 ghost use Rattle.c11_directives.specs.Pre.{Context, Decides, Pre, State};
 ghost use Rattle.c11_directives.specs.declared.directive.Test.{Test};
 ghost use Rattle.c11_macros.specs.Expansion.{IsWithin};
+ghost use Rattle.sc_model.specs.declared.cause.Cause.{Cause};
 ghost use Rattle.sc_model.specs.Fault.{Fault};
 ghost use Rattle.sc_model.specs.Outside.{Files};
 ghost use Rattle.sc_model.specs.Space.{Space};
@@ -34,4 +36,14 @@ pub fn preprocessing_has_one_answer()
 /// Each configuration has one of these.
 pub fn preprocessing_has_an_answer()
     ensures { (space : Space) (files : Files) (main config : List ℕ) → (r : Result (List Token) Fault) × Pre space files main config r }
+{}
+
+/// The text of a space says one thing of a configuration: whether it holds, or one cause.
+pub fn listing_has_one_answer()
+    ensures { (space : Space) (config : List ℕ) (r s : Result Bool Cause) → SaysValid space config r → SaysValid space config s → r ≡ s }
+{}
+
+/// It says something of each configuration.
+pub fn listing_has_an_answer()
+    ensures { (space : Space) (config : List ℕ) → (r : Result Bool Cause) × SaysValid space config r }
 {}

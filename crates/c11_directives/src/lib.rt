@@ -7,6 +7,7 @@ mod laws;
 
 pub use directive::{Conditional, Directive, Test};
 pub use laws::{
-    conditionals_have_an_answer, nesting_has_an_answer, nesting_has_one_answer,
-    preprocessing_has_an_answer, preprocessing_has_one_answer,
+    conditionals_have_an_answer, listing_has_an_answer, listing_has_one_answer,
+    nesting_has_an_answer, nesting_has_one_answer, preprocessing_has_an_answer,
+    preprocessing_has_one_answer,
 };

@@ -181,5 +181,8 @@ lexes (suc fuel) line space (m ∷ ms) few = elim (unended_or_not line (bytes_of
         let rest = again (line_after line kind (take n (bytes_of (m ∷ ms)))) (is_newline kind) (drop n (m ∷ ms)) (shorter n is.positive) in
         (with_first (lexeme space m (take n (bytes_of (m ∷ ms))) kind) rest.0, piece n kind is rest.1 refl)
 
+pub lexes-some : (line : List (List ℕ)) (space : Bool) (ms : List Marked) → (r : Result (List Lexeme) Position) × Lexes line space ms r
+lexes-some line space ms = lexes (length ms) line space ms (omega arith)
+
 pub lexed-some : (bytes : List ℕ) → (r : Result (List Lexeme) Position) × Lexed bytes r
-lexed-some bytes = lexes (length (phase_2 bytes)) [] false (phase_2 bytes) (omega arith)
+lexed-some bytes = lexes-some [] false (phase_2 bytes)

@@ -1,7 +1,6 @@
 -- Configurations: the variables and their options.
-use Rattle.std.specs.Prelude.{ℕ, ◌+◌, ◌++◌, List, [], ◌∷◌, length, map, codes, decimal}
+use Rattle.std.specs.Prelude.{ℕ, ◌+◌, ◌++◌, List, [], ◌∷◌, length, map, codes, decimal, Option}
 use Rattle.sc_model.specs.declared.standard.Standard.{Standard}
-use Rattle.sc_model.specs.Sets.{IsConfig}
 use Rattle.sc_model.specs.Token.{Item}
 
 -- The name of a variable starts without a definition, or as a macro without arguments that stands
@@ -23,14 +22,12 @@ pub record Space : Type 0 where
   pub date : List ℕ
   pub time : List ℕ
   pub standard : Standard
+  -- which configurations are meant, as behind `#if`; all where there is none
+  pub valid : Option (List ℕ)
 
 -- how many options each variable has
 abbrev pub arities_of : Space → List ℕ
 arities_of space = map (λ v. length v.options) space.variables
-
--- One option index for each variable. All configurations are listed.
-abbrev pub IsListed : Space → List ℕ → Type 0
-IsListed space config = IsConfig (arities_of space) config
 
 -- how the option of this index is written and chosen
 abbrev pub option_word : ℕ → VariableOption → List ℕ
