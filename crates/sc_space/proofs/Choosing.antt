@@ -11,9 +11,9 @@ use Rattle.std.specs.List.{All, position, position_from, position_or_len, before
 use Rattle.std.specs.Option.{ok_or}
 use Rattle.std.specs.Prelude.{◌==◌, slice_index, slice_set}
 use Rattle.sc_model.specs.Bytes.{same_bytes}
-use Rattle.sc_model.specs.Sets.{HasOptions}
+use Rattle.sc_model.specs.Sets.{HasOptions, IsConfig}
 use Rattle.sc_model.proofs.SpaceLemmas.{length-option_words}
-use Rattle.sc_model.specs.Space.{Variable, Space, arities_of, option_word, option_words, words_from, IsListed}
+use Rattle.sc_model.specs.Space.{Variable, Space, arities_of, option_word, option_words, words_from}
 use Rattle.sc_space.specs.declared.config.Choice.{Choice}
 use Rattle.sc_space.specs.declared.space.Variable.{Variable as ReadVariable}
 use Rattle.sc_space.specs.Config.{split_word, variable_named, options_at, option_written, option_for, check_fresh, Fills, read_parts, read_choice, read_choices, config_of, read_config}
@@ -145,15 +145,15 @@ option_within space (choice ∷ choices) v within some =
       | inr other ↦ rw (ne_eqb _ _ other) (option_within space choices v (All-tail (IsWithin space) choice choices within) some)
     ]
 
-pub listed : (space : Space) (words : List (List ℕ)) (config : List ℕ) → HasOptions (arities_of space) → read_config space words ≡ Ok config → IsListed space config
+pub formed : (space : Space) (words : List (List ℕ)) (config : List ℕ) → HasOptions (arities_of space) → read_config space words ≡ Ok config → IsConfig (arities_of space) config
 unfolding read_config
-listed space words config some read =
+formed space words config some read =
     let choices = went_on _ _ config read in
     let within = choices_within space [] choices.0 words (All-nil (IsWithin space)) choices.1 in
     let n = length space.variables in
     let option : ℕ → ℕ = λ v. unwrap_or (option_for choices.0 v) 0 in
     let arities = length-map space.variables (λ (v : Variable). length v.options) in
-    subst (IsListed space) (same_Ok _ _ choices.2) (record {
+    subst (IsConfig (arities_of space)) (same_Ok _ _ choices.2) (record {
       long = length-map-range_with_len option 0 n ∙ sym arities;
       each = λ v below. rw (get_or-map-range_with_len option 0 n v v 0 (omega (arith, arities)) (omega arith)) (option_within space choices.0 v within (some.each v below));
     })

@@ -4,13 +4,14 @@ use Rattle.std.specs.Prelude.{⊤}
 use Rattle.std.specs.Str.{chars, is_utf8}
 use Rattle.sc_model.specs.Space.{undefined, number, text, Variable, Space}
 use Rattle.sc_space.specs.Texts.{Texts}
-use Rattle.sc_space.specs.Settings.{limit_of, directory_of, date_of, standard_of}
-use Rattle.sc_space.specs.SpaceFile.{unknown_key, no_variables, bad_name, bad_option, repeated_option, not_toml, bad_limit, bad_include, bad_date, bad_standard, read_document, check_keys, variables_table, is_ascii_identifier, is_protected, read_option, read_each, read_options, are_different, read_variable, read_variables, read_limit, read_directories, read_include, read_date, read_standard, with_settings, read_space}
+use Rattle.sc_space.specs.Settings.{limit_of, directory_of, date_of, standard_of, valid_of}
+use Rattle.sc_space.specs.SpaceFile.{unknown_key, no_variables, bad_name, bad_option, repeated_option, not_toml, bad_limit, bad_include, bad_date, bad_standard, bad_valid, read_document, check_keys, variables_table, is_ascii_identifier, is_protected, read_option, read_each, read_options, are_different, read_variable, read_variables, read_limit, read_directories, read_include, read_date, read_standard, read_valid, with_settings, read_space}
 use Rattle.toml.proofs.OnLiterals.{toml_on_literals}
+use Rattle.sc_model.specs.declared.cause.Cause.TheVariants.{BadIf}
 use Rattle.sc_model.specs.declared.standard.Standard.TheVariants.{C11, C23, Gnu11}
 
 unfoldable on_examples : ⊤
-unfolding toml_on_literals chars is_utf8 read_document check_keys variables_table is_ascii_identifier is_protected read_option read_each read_options are_different read_variable read_variables read_limit limit_of read_directories directory_of read_include read_date date_of read_standard standard_of with_settings read_space
+unfolding toml_on_literals chars is_utf8 read_document check_keys variables_table is_ascii_identifier is_protected read_option read_each read_options are_different read_variable read_variables read_limit limit_of read_directories directory_of read_include read_date date_of read_standard standard_of read_valid valid_of with_settings read_space
 on_examples = tt
 
 -- no text is an option
@@ -43,7 +44,7 @@ protected_name = refl
 
 -- the settings of a file that names none
 abbrev with_defaults : List Variable → Space
-with_defaults variables = record { variables = variables; include = []; branches = 4096; include_depth = 64; date = codes "Jan  1 1970"; time = codes "00:00:00"; standard = C11 }
+with_defaults variables = record { variables = variables; include = []; branches = 4096; include_depth = 64; date = codes "Jan  1 1970"; time = codes "00:00:00"; standard = C11; valid = None }
 
 two_variables : read_space no_texts (codes "[variables]\nHZ = [\"undef\", 100]\nA = [0]\n")
     ≡ Ok (with_defaults (record { name = codes "A"; options = number 0 ∷ [] } ∷ record { name = codes "HZ"; options = undefined ∷ number 100 ∷ [] } ∷ []))
@@ -77,6 +78,22 @@ standard_c23 = refl
 standard_gnu11 : read_space no_texts (codes "standard = \"gnu11\"\n[variables]\n") ≡ Ok (record (with_defaults []) { standard = Gnu11 })
 unfolding on_examples
 standard_gnu11 = refl
+
+valid_text : read_space no_texts (codes "valid = \"!A\"\n[variables]\n") ≡ Ok (record (with_defaults []) { valid = Some (codes "!A") })
+unfolding on_examples
+valid_text = refl
+
+valid_number : read_space no_texts (codes "valid = 1\n[variables]\n") ≡ Err (bad_valid BadIf)
+unfolding on_examples
+valid_number = refl
+
+valid_of_two_lines : read_space no_texts (codes "valid = \"1\\n\"\n[variables]\n") ≡ Err (bad_valid BadIf)
+unfolding on_examples
+valid_of_two_lines = refl
+
+valid_last : read_space no_texts (codes "valid = 1\nstandard = 1\n[variables]\n") ≡ Err bad_standard
+unfolding on_examples
+valid_last = refl
 
 -- every text is an option, with an empty list
 abbrev all_texts : Texts

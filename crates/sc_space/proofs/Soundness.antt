@@ -30,7 +30,7 @@ use Rattle.sc_space.specs.Sound.{IsInRange, IsBefore, IsSoundVariable, IsSound, 
 use Rattle.sc_space.specs.Texts.{AreTexts, Texts}
 use Rattle.sc_space.proofs.TextLists.{text-plain}
 use Rattle.sc_space.specs.Settings.{setting, limit_of, is_directory, directory_of, is_date_byte, date_of}
-use Rattle.sc_space.specs.SpaceFile.{Fault, ◌>>=◌, is_identifier_start, is_identifier_byte, is_ascii_identifier, is_protected, read_option, read_each, read_options, same_option, are_different, read_variable, read_variables, read_limit, read_directories, directories_of, read_include, read_date, read_standard, with_settings}
+use Rattle.sc_space.specs.SpaceFile.{Fault, ◌>>=◌, is_identifier_start, is_identifier_byte, is_ascii_identifier, is_protected, read_option, read_each, read_options, same_option, are_different, read_variable, read_variables, read_limit, read_directories, directories_of, read_include, read_date, read_standard, read_valid, with_settings}
 use Rattle.toml.specs.Data.{Data, string, integer, array, Items, no_items, item, Members, no_members, member}
 use Rattle.toml.specs.View.{members_view}
 use Rattle.toml.specs.declared.value.Value.{Value}
@@ -319,13 +319,23 @@ sound texts are ms document vs space read few ascending whole =
     let include = went_on _ _ space depth.2 in
     let date = went_on _ _ space include.2 in
     let time = went_on _ _ space date.2 in
-    let named : Standard → Space = λ standard. record { variables = vs; include = include.0; branches = branches.0; include_depth = depth.0; date = date.0; time = time.0; standard = standard } in
-    let standard = went_on (read_standard document) (λ standard. Ok (named standard)) space time.2 in
+    let listing : Standard → Option (List ℕ) → Space = λ standard valid. record {
+      variables = vs;
+      include = include.0;
+      branches = branches.0;
+      include_depth = depth.0;
+      date = date.0;
+      time = time.0;
+      standard = standard;
+      valid = valid;
+    } in
+    let standard = went_on (read_standard document) (λ standard. read_valid document >>= (λ valid. Ok (listing standard valid))) space time.2 in
+    let valid = went_on (read_valid document) (λ valid. Ok (listing standard.0 valid)) space standard.2 in
     let branches_are = read_limit-is _ _ _ _ _ document many_branches branches.1 in
     let depth_is = read_limit-is _ _ _ _ _ document some_depth depth.1 in
     let date_is = read_date-is (codes "date") 11 (codes "Jan  1 1970") _ document (record { long = refl; plain = refl }) date.1 in
     let time_is = read_date-is (codes "time") 8 (codes "00:00:00") _ document (record { long = refl; plain = refl }) time.1 in
-    subst IsSound (same_Ok (named standard.0) space standard.2) (record {
+    subst IsSound (same_Ok (listing standard.0 valid.0) space valid.2) (record {
       each = each;
       ascending = ascending;
       names_differ = record { same = names_one_place (names_of vs) ascending };

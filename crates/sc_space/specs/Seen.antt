@@ -1,5 +1,5 @@
 -- A space and a refusal as the definitions see them.
-use Rattle.std.specs.Prelude.{◌≡◌, map, string_bytes, Result, Ok, Err}
+use Rattle.std.specs.Prelude.{◌≡◌, map, option_map, string_bytes, Result, Ok, Err}
 use Rattle.sc_model.specs.Space as model
 use Rattle.sc_model.specs.Token.{Item}
 use Rattle.sc_space.specs.declared.fault.SpaceFault.{SpaceFault}
@@ -11,7 +11,7 @@ use Rattle.sc_space.specs.declared.option.VariableOption.{VariableOption}
 use Rattle.sc_space.specs.declared.option.VariableOption.TheVariants.{Undefined, Number, Text}
 use Rattle.sc_space.specs.declared.space.Space.{Space}
 use Rattle.sc_space.specs.declared.space.Variable.{Variable}
-use Rattle.sc_space.specs.SpaceFile.{Fault, too_large, not_toml, unknown_key, no_variables, bad_name, bad_option, repeated_option, too_many, bad_limit, bad_include, bad_date, bad_standard, unknown_variable, repeated_variable, unknown_option}
+use Rattle.sc_space.specs.SpaceFile.{Fault, too_large, not_toml, unknown_key, no_variables, bad_name, bad_option, repeated_option, too_many, bad_limit, bad_include, bad_date, bad_standard, bad_valid, unknown_variable, repeated_variable, unknown_option, no_configuration, invalid}
 
 abbrev pub seen_item : SpelledItem → Item
 seen_item i = record { kind = i.kind; spelling = i.spelling.items; space = i.space }
@@ -33,6 +33,7 @@ seen_space space = record {
   date = string_bytes space.date;
   time = string_bytes space.time;
   standard = space.standard;
+  valid = option_map string_bytes space.valid;
 }
 
 abbrev pub seen_fault : SpaceFault → Fault
@@ -48,9 +49,12 @@ seen_fault (fault.BadLimit key) = bad_limit (string_bytes key)
 seen_fault (fault.BadInclude place) = bad_include (string_bytes place)
 seen_fault (fault.BadDate key) = bad_date (string_bytes key)
 seen_fault fault.BadStandard = bad_standard
+seen_fault (fault.BadValid cause) = bad_valid cause
 seen_fault (fault.UnknownVariable name) = unknown_variable (string_bytes name)
 seen_fault (fault.RepeatedVariable name) = repeated_variable (string_bytes name)
 seen_fault (fault.UnknownOption name) = unknown_option (string_bytes name)
+seen_fault fault.NoConfiguration = no_configuration
+seen_fault fault.Invalid = invalid
 
 -- The call refuses for the fault of the definition, or memory ran out.
 abbrev pub Refuses : {T : Type 0} → SpaceStop → Result T Fault → Type 0

@@ -16,9 +16,13 @@ unfoldable pub limit_of : ℕ → ℕ → Data → Option ℕ
 limit_of least most (integer (pos n)) = if is_between least most n then Some n else None
 limit_of least most _ = None
 
+-- it stands on one line, without tabs and the like
+abbrev pub has_no_control : List ℕ → Bool
+has_no_control bytes = list_all (nat_le 32) bytes
+
 -- a name that is not empty, without bytes below 32
 abbrev pub is_directory : List ℕ → Bool
-is_directory name = not (length name == 0) && list_all (nat_le 32) name
+is_directory name = not (length name == 0) && has_no_control name
 
 unfoldable pub directory_of : Data → Option (List ℕ)
 directory_of (string name) = if is_directory name then Some name else None
@@ -45,3 +49,8 @@ standard_named name =
 unfoldable pub standard_of : Data → Option Standard
 standard_of (string name) = standard_named name
 standard_of _ = None
+
+-- a text without bytes below 32, which is read as the tokens of a line
+unfoldable pub valid_of : Data → Option (List ℕ)
+valid_of (string text) = if has_no_control text then Some text else None
+valid_of _ = None

@@ -6,15 +6,19 @@ use Rattle.std.specs.Str.{is_utf8}
 use Rattle.sc_model.specs.Bytes.{same_bytes, is_between, is_digit}
 use Rattle.sc_model.specs.Outside.{largest_file}
 use Rattle.sc_model.specs.Space.{VariableOption, undefined, number, text, Variable, Space}
+use Rattle.sc_model.specs.Cause as causes
+use Rattle.sc_model.specs.declared.cause.Cause.{Cause}
+use Rattle.sc_model.specs.declared.cause.Cause.TheVariants.{BadIf}
 use Rattle.sc_model.specs.declared.standard.Standard.{Standard}
 use Rattle.sc_model.specs.declared.standard.Standard.TheVariants.{C11}
 use Rattle.c11_macros.specs.Macros.{predefined_names}
-use Rattle.sc_space.specs.Settings.{setting, limit_of, directory_of, date_of, standard_of}
+use Rattle.sc_space.specs.Settings.{setting, limit_of, directory_of, date_of, standard_of, valid_of}
 use Rattle.sc_space.specs.Texts.{Texts}
 use Rattle.toml.specs.Data.{Data, string, integer, array, Items, no_items, item, Members, no_members, member, as_table, get_member}
 use Rattle.toml.specs.Parse.{parse_document}
 
--- Why a space file, or the words for a configuration, are refused, with what is at fault.
+-- Why a space file, or the words for a configuration, are refused, with what is at fault. The last
+-- two tell that no configuration is valid, or that the chosen one isn't.
 pub data Fault : Type 0 where
   too_large : Fault
   not_toml : Fault
@@ -28,9 +32,12 @@ pub data Fault : Type 0 where
   bad_include : (place : List ℕ) → Fault
   bad_date : (key : List ℕ) → Fault
   bad_standard : Fault
+  bad_valid : (cause : Cause) → Fault
   unknown_variable : (name : List ℕ) → Fault
   repeated_variable : (name : List ℕ) → Fault
   unknown_option : (name : List ℕ) → Fault
+  no_configuration : Fault
+  invalid : Fault
 
 -- the first fault ends the reading
 infixl 10 ◌>>=◌
@@ -47,7 +54,7 @@ read_document bytes =
 
 -- the keys that a space file may have
 abbrev pub known_keys : List (List ℕ)
-known_keys = codes "variables" ∷ codes "include" ∷ codes "branches" ∷ codes "include_depth" ∷ codes "date" ∷ codes "time" ∷ codes "standard" ∷ []
+known_keys = codes "variables" ∷ codes "include" ∷ codes "branches" ∷ codes "include_depth" ∷ codes "date" ∷ codes "time" ∷ codes "standard" ∷ codes "valid" ∷ []
 
 -- the first key that is not known is at fault
 unfoldable pub check_keys : Members → Result (Unit {0}) Fault
@@ -151,6 +158,10 @@ read_date key size default document = ok_or (setting default (date_of size) (get
 unfoldable pub read_standard : Members → Result Standard Fault
 read_standard document = ok_or (setting C11 standard_of (get_member (codes "standard") document)) bad_standard
 
+-- the text, if there is one
+unfoldable pub read_valid : Members → Result (Option (List ℕ)) Fault
+read_valid document = ok_or (setting None (λ value. option_map Some (valid_of value)) (get_member (codes "valid") document)) (bad_valid BadIf)
+
 -- the variables with the settings that the file gives, or their defaults
 unfoldable pub with_settings : List Variable → Members → Result Space Fault
 with_settings variables document = do
@@ -160,7 +171,8 @@ with_settings variables document = do
   date ← read_date (codes "date") 11 (codes "Jan  1 1970") document
   time ← read_date (codes "time") 8 (codes "00:00:00") document
   standard ← read_standard document
-  Ok (record { variables = variables; include = include; branches = branches; include_depth = include_depth; date = date; time = time; standard = standard })
+  valid ← read_valid document
+  Ok (record { variables = variables; include = include; branches = branches; include_depth = include_depth; date = date; time = time; standard = standard; valid = valid })
 
 -- at most 1,024 variables
 abbrev pub check_number : List Variable → Result (Unit {0}) Fault
@@ -190,9 +202,12 @@ name_of (bad_limit key) = codes "BadLimit"
 name_of (bad_include place) = codes "BadInclude"
 name_of (bad_date key) = codes "BadDate"
 name_of bad_standard = codes "BadStandard"
+name_of (bad_valid cause) = codes "BadValid"
 name_of (unknown_variable name) = codes "UnknownVariable"
 name_of (repeated_variable name) = codes "RepeatedVariable"
 name_of (unknown_option name) = codes "UnknownOption"
+name_of no_configuration = codes "NoConfiguration"
+name_of invalid = codes "Invalid"
 
 abbrev pub item_of : Fault → Option (List ℕ)
 item_of too_large = None
@@ -207,9 +222,12 @@ item_of (bad_limit key) = Some key
 item_of (bad_include place) = Some place
 item_of (bad_date key) = Some key
 item_of bad_standard = None
+item_of (bad_valid cause) = Some (causes.name_of cause)
 item_of (unknown_variable name) = Some name
 item_of (repeated_variable name) = Some name
 item_of (unknown_option name) = Some name
+item_of no_configuration = None
+item_of invalid = None
 
 abbrev pub with_item : List ℕ → Option (List ℕ) → List ℕ
 with_item name None = name

@@ -1,7 +1,7 @@
 //! The configuration that words choose.
 ghost use Rattle.std.specs.Prelude.{◌≡◌, ◌<◌, List, map, length, string_bytes, unwrap_or, IfOk};
-ghost use Rattle.sc_model.specs.Sets.{HasOptions};
-ghost use Rattle.sc_model.specs.Space.{arities_of, IsListed};
+ghost use Rattle.sc_model.specs.Sets.{HasOptions, IsConfig};
+ghost use Rattle.sc_model.specs.Space.{arities_of};
 ghost use Rattle.sc_space.specs.Config.{Fills, variable_named, option_written, read_parts, read_choice, read_config};
 ghost use Rattle.sc_space.specs.declared.config.Choice.{Choice};
 ghost use Rattle.sc_space.specs.Seen.{seen_option, seen_space, Answers};
@@ -23,7 +23,7 @@ impl Space {
     /// no word names has its first option.
     pub fn config(&self, alloc: Global, words: &[String]) -> Result<Vec<usize>, SpaceStop>
         ensures answer { Answers (λ config. config.items) result (read_config (seen_space self.now) (map string_bytes words.now)) }
-        ensures listed { HasOptions (arities_of (seen_space self.now)) → IfOk result (λ config. IsListed (seen_space self.now) config.items) }
+        ensures formed { HasOptions (arities_of (seen_space self.now)) → IfOk result (λ config. IsConfig (arities_of (seen_space self.now)) config.items) }
     {
         let mut chosen = vec![in alloc; None; self.variables.len()]?;
         for word in words {

@@ -1,12 +1,13 @@
 ghost use Rattle.std.specs.Prelude.{◌≡◌};
 ghost use Rattle.sc_space.specs.declared.fault.SpaceStop.TheVariants as stop;
 
-use sc_base::OutOfMemory;
+use sc_base::{Cause, OutOfMemory};
 use std::alloc::{AllocError, AllocFailed};
 use thiserror::Error;
 
 /// Why a space file is refused: the first reason that applies, in this order. What is at fault is
-/// told where it has a name. The last three are of the words for a configuration.
+/// told where it has a name. The last five are of the words for a configuration, and of what
+/// `valid` says of configurations.
 #[derive(Debug, Drop, Error)]
 pub enum SpaceFault {
     /// The file has more than 16,777,216 bytes.
@@ -45,6 +46,9 @@ pub enum SpaceFault {
     /// The value of `standard` names no standard that there is.
     #[error("bad standard")]
     BadStandard,
+    /// The value of `valid` is no text of one line, or it refuses a configuration.
+    #[error("bad valid")]
+    BadValid(Cause),
     /// The word names no variable. It is told whole where it has no `=`.
     #[error("unknown variable {0}")]
     UnknownVariable(String),
@@ -54,6 +58,12 @@ pub enum SpaceFault {
     /// The word gives none of the options of the variable.
     #[error("unknown option of {0}")]
     UnknownOption(String),
+    /// No configuration is valid.
+    #[error("no valid configuration")]
+    NoConfiguration,
+    /// The configuration is not valid.
+    #[error("invalid configuration")]
+    Invalid,
 }
 
 impl SpaceFault {
@@ -78,17 +88,20 @@ impl SpaceFault {
             SpaceFault::BadInclude(_) => "BadInclude",
             SpaceFault::BadDate(_) => "BadDate",
             SpaceFault::BadStandard => "BadStandard",
+            SpaceFault::BadValid(_) => "BadValid",
             SpaceFault::UnknownVariable(_) => "UnknownVariable",
             SpaceFault::RepeatedVariable(_) => "RepeatedVariable",
             SpaceFault::UnknownOption(_) => "UnknownOption",
+            SpaceFault::NoConfiguration => "NoConfiguration",
+            SpaceFault::Invalid => "Invalid",
         }
     }
 
-    /// The key, the name or the place that is at fault, if there is one.
+    /// The key, the name, the place or the cause that is at fault, if there is one.
     pub fn item(&self) -> Option<&str>
         ensures { option_copied result ≡ item_of (seen_fault self.now) }
     {
-        match self {
+        let item = match self {
             SpaceFault::UnknownKey(item)
             | SpaceFault::BadName(item)
             | SpaceFault::BadOption(item)
@@ -98,13 +111,17 @@ impl SpaceFault {
             | SpaceFault::BadDate(item)
             | SpaceFault::UnknownVariable(item)
             | SpaceFault::RepeatedVariable(item)
-            | SpaceFault::UnknownOption(item) => Some(item.as_str()),
+            | SpaceFault::UnknownOption(item) => item,
+            SpaceFault::BadValid(cause) => return Some(cause.name()),
             SpaceFault::TooLarge
             | SpaceFault::NotToml
             | SpaceFault::NoVariables
             | SpaceFault::TooMany
-            | SpaceFault::BadStandard => None,
-        }
+            | SpaceFault::BadStandard
+            | SpaceFault::NoConfiguration
+            | SpaceFault::Invalid => return None,
+        };
+        Some(item.as_str())
     }
 }
 

@@ -50,7 +50,14 @@ fn is_known_key(key: &str) -> bool
 {
     matches!(
         key,
-        "variables" | "include" | "branches" | "include_depth" | "date" | "time" | "standard"
+        "variables"
+            | "include"
+            | "branches"
+            | "include_depth"
+            | "date"
+            | "time"
+            | "standard"
+            | "valid"
     )
 }
 

@@ -1,15 +1,15 @@
 //! The settings of a run: each key's value is checked and read by itself, or its default taken.
-ghost use Rattle.std.specs.Prelude.{◌≡◌, map, string_bytes, option_copied, decimal, nat_le, IfOk};
+ghost use Rattle.std.specs.Prelude.{◌≡◌, map, string_bytes, option_copied, option_map, decimal, IfOk};
 ghost use Rattle.std.specs.List.{list_all};
 ghost use Rattle.sc_space.specs.Seen.{seen_space, seen_variable, seen_fault, Answers};
-ghost use Rattle.sc_space.specs.Settings.{limit_of, is_directory, directory_of, is_date_byte, date_of, standard_named, standard_of};
-ghost use Rattle.sc_space.specs.SpaceFile.{bad_include, read_limit, read_directories, read_include, read_date, read_standard, with_settings};
+ghost use Rattle.sc_space.specs.Settings.{limit_of, has_no_control, is_directory, directory_of, is_date_byte, date_of, standard_named, standard_of, valid_of};
+ghost use Rattle.sc_space.specs.SpaceFile.{bad_include, read_limit, read_directories, read_include, read_date, read_standard, read_valid, with_settings};
 ghost use Rattle.toml.specs.View.{view, items_view, table_view};
 
 use crate::read::value_at;
 use crate::{Space, SpaceFault, SpaceStop, Variable};
 use itoa::Buffer;
-use sc_base::{Limits, OutOfMemory, is_same};
+use sc_base::{Cause, Limits, OutOfMemory, is_same};
 use sc_model::Standard;
 use std::alloc::Global;
 use toml::{Table, Value};
@@ -29,6 +29,7 @@ pub(crate) fn with_settings(
     let date = read_date(alloc, document, "date", 11, "Jan  1 1970")?;
     let time = read_date(alloc, document, "time", 8, "00:00:00")?;
     let standard = read_standard(document)?;
+    let valid = read_valid(alloc, document)?;
     Ok(Space {
         variables,
         include,
@@ -39,6 +40,7 @@ pub(crate) fn with_settings(
         date,
         time,
         standard,
+        valid,
     })
 }
 
@@ -124,7 +126,7 @@ fn is_directory(name: &[u8]) -> bool
 }
 
 fn has_no_control(bytes: &[u8]) -> bool
-    ensures { result ≡ list_all (nat_le 32) bytes.now }
+    ensures { result ≡ has_no_control bytes.now }
 {
     bytes.iter().all(|b| 32 <= *b)
 }
@@ -212,6 +214,32 @@ fn standard_named(name: &[u8]) -> Option<Standard>
         Some(Standard::C23)
     } else if is_same(name, b"gnu11") {
         Some(Standard::Gnu11)
+    } else {
+        None
+    }
+}
+
+/// The text that says which configurations are meant.
+#[tactic(auto, unfolding(crate::specs::SpaceFile::read_valid))]
+fn read_valid(alloc: Global, document: &Table) -> Result<Option<String>, SpaceStop>
+    ensures { Answers (λ valid. option_map string_bytes valid) result (read_valid (table_view document.now)) }
+{
+    let Some(value) = value_at(document, "valid") else {
+        return Ok(None);
+    };
+    match valid_of(value) {
+        Some(text) => Ok(Some(String::from_str(alloc, text)?)),
+        None => Err(SpaceStop::Fault(SpaceFault::BadValid(Cause::BadIf))),
+    }
+}
+
+#[tactic(auto, unfolding(crate::specs::Settings::valid_of))]
+fn valid_of(value: &Value) -> Option<&str>
+    ensures { option_copied result ≡ valid_of (view value.now) }
+{
+    let text = value.as_str()?;
+    if has_no_control(text.as_bytes()) {
+        Some(text)
     } else {
         None
     }

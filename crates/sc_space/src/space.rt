@@ -25,6 +25,9 @@ pub struct Space {
     pub time: String,
     /// The standard by which files are read.
     pub standard: Standard,
+    /// Which configurations are meant: those for which this holds behind `#if`, all where there is
+    /// none.
+    pub valid: Option<String>,
 }
 
 impl Space {
@@ -37,7 +40,7 @@ impl Space {
     /// Reads a space file, which is TOML 1.1: the table `variables` gives each variable the list of
     /// its options, each the text `undef`, a whole number from 0, or another text, which is the
     /// replacement list of a macro without arguments. The keys `include`, `branches`,
-    /// `include_depth`, `date`, `time` and `standard` are settings.
+    /// `include_depth`, `date`, `time`, `standard` and `valid` are settings.
     pub fn read(alloc: Global, bytes: &[u8]) -> Result<Space, SpaceStop>
         ensures answer { (texts : Texts) → AreTexts texts → Answers seen_space result (read_space texts bytes.now) }
         ensures sound { IfOk result (λ s. IsSound (seen_space s)) }

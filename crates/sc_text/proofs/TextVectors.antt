@@ -1,5 +1,5 @@
 -- The text of an answer, computed on an example.
-use Rattle.std.proofs.Common.{◌≡◌, ℕ, refl, arith, codes, List, [], ◌∷◌, Some, Result, Ok}
+use Rattle.std.proofs.Common.{◌≡◌, ℕ, refl, arith, codes, List, [], ◌∷◌, None, Some, Result, Ok}
 use Rattle.std.specs.List.{flat_map}
 use Rattle.std.specs.Fmt.{digits}
 use Rattle.sc_text.specs.Answer.{Condition, token_list, Answer, At, accepted}
@@ -12,7 +12,7 @@ use Rattle.sc_text.specs.Text.{TextLine, condition_line, file_line, token_line, 
 use Rattle.sc_model.specs.declared.standard.Standard.TheVariants.{C11}
 
 abbrev space : Space
-space = record { variables = record { name = codes "A"; options = model.undefined ∷ model.number 1 ∷ [] } ∷ []; include = []; branches = 4096; include_depth = 64; date = []; time = []; standard = C11 }
+space = record { variables = record { name = codes "A"; options = model.undefined ∷ model.number 1 ∷ [] } ∷ []; include = []; branches = 4096; include_depth = 64; date = []; time = []; standard = C11; valid = None }
 
 abbrev place : ℕ → Printed
 place line = record { file = 0; position = record { line = line; column = 1 } }

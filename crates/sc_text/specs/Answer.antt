@@ -1,7 +1,8 @@
 -- What a text shows: tokens or a tree under conditions, and faults.
 use Rattle.std.specs.Prelude.{◌≡◌, ℕ, ◌<◌, Bool, true, false, List, [], ◌∷◌, length, All, AllPairs, Option, Some, None, Result, Ok, Err, slice_get, if◌then◌else◌}
 use Rattle.sc_model.specs.Fault.{Fault}
-use Rattle.sc_model.specs.Space.{Space, IsListed}
+use Rattle.sc_model.specs.Sets.{IsConfig}
+use Rattle.sc_model.specs.Space.{Space, arities_of}
 use Rattle.sc_model.specs.Token.{Shown}
 
 -- A set of configurations, seen through the test whether it has one.
@@ -91,14 +92,14 @@ pub data At {kind : BodyKind} (answer : Answer kind) (config : List ℕ) : Resul
 -- There are at least two branches, their conditions disjoint and satisfiable.
 pub record PartsConfigs (space : Space) (branches : List (Condition × ℕ)) : Type 0 where
   pub several : 1 < length branches
-  pub apart : AllPairs (λ a b. (c : List ℕ) → IsListed space c → a.0 c ≡ true → b.0 c ≡ true → ⊥) branches
-  pub possible : All (λ (branch : Condition × ℕ). ((c : List ℕ) → IsListed space c → branch.0 c ≡ false) → ⊥) branches
+  pub apart : AllPairs (λ a b. (c : List ℕ) → IsConfig (arities_of space) c → a.0 c ≡ true → b.0 c ≡ true → ⊥) branches
+  pub possible : All (λ (branch : Condition × ℕ). ((c : List ℕ) → IsConfig (arities_of space) c → branch.0 c ≡ false) → ⊥) branches
 
 -- each choice has such branches
 pub record HasSoundChoices (space : Space) (parts : List Part) : Type 0 where
   pub each : (id : ℕ) (branches : List (Condition × ℕ)) → slice_get parts id ≡ Some (choice_part branches) → PartsConfigs space branches
 
--- there is a root exactly where some listed configuration has no fault
-pub record IsRooted (space : Space) (answer : Answer tree_parts) : Type 0 where
-  pub some : (root : ℕ) → answer.body.root ≡ Some root → (config : List ℕ) × (IsListed space config × (project answer.faults config ≡ []))
-  pub none : answer.body.root ≡ None → (config : List ℕ) → IsListed space config → project answer.faults config ≡ [] → ⊥
+-- there is a root exactly where some of these configurations has no fault
+pub record IsRooted (is_listed : List ℕ → Type 0) (answer : Answer tree_parts) : Type 0 where
+  pub some : (root : ℕ) → answer.body.root ≡ Some root → (config : List ℕ) × (is_listed config × (project answer.faults config ≡ []))
+  pub none : answer.body.root ≡ None → (config : List ℕ) → is_listed config → project answer.faults config ≡ [] → ⊥

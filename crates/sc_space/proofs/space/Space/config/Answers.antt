@@ -3,7 +3,7 @@ use Rattle.std.proofs.lemmas.List.{drop_more, drop_all}
 use Rattle.std.proofs.lemmas.Result.{err_from_is_err_and}
 use Rattle.sc_space.specs.Config.{Fills}
 use Rattle.sc_space.specs.Seen.{seen_space}
-use Rattle.sc_space.proofs.Choosing.{HasRead, HasRead-more, HasRead-refused, HasRead-all, listed}
+use Rattle.sc_space.proofs.Choosing.{HasRead, HasRead-more, HasRead-refused, HasRead-all, formed}
 use Rattle.sc_space.proofs.space.Space.config.Goals as goal
 
 pub returns-in_err-choice-clause-answer : goal.returns-in_err-choice-clause-answer
@@ -29,8 +29,8 @@ returns-clause-answer c =
     let h : HasRead (seen_space c.args.self.now) (map string_bytes words) [] c.loop-word.chosen.items = rw (drop_all _ words c.loop-word-test.false) at c.loop-word.invariant in
     rw (c.in_ok-filled.ensures, c.deref-2.ensures.value) (HasRead-all _ _ _ h)
 
-pub returns-clause-listed : goal.returns-clause-listed
-returns-clause-listed c =
+pub returns-clause-formed : goal.returns-clause-formed
+returns-clause-formed c =
     let words = c.args.words.now in
     let h : HasRead (seen_space c.args.self.now) (map string_bytes words) [] c.loop-word.chosen.items = rw (drop_all _ words c.loop-word-test.false) at c.loop-word.invariant in
-    λ some. rw (c.in_ok-filled.ensures, c.deref-2.ensures.value) (listed _ _ _ some (HasRead-all _ _ _ h))
+    λ some. rw (c.in_ok-filled.ensures, c.deref-2.ensures.value) (formed _ _ _ some (HasRead-all _ _ _ h))
