@@ -23,6 +23,7 @@ pub mod Held
 pub mod InFile
 pub mod IncludeLeads
 pub mod LeadMoves
+pub mod LeastCause
 pub mod LeftItems
 pub mod LineFootprints
 pub mod LineNumbers
@@ -56,6 +57,8 @@ pub mod StageRefusals
 pub mod Stages
 pub mod Stopping
 pub mod TakeLine
+pub mod ValidLine
+pub mod ValidMoves
 pub mod VoidFootprints
 pub mod WalkLeads
 pub mod WalkMoves

@@ -1,20 +1,26 @@
 -- A walk of the main file, from before its first line.
-use Rattle.std.proofs.Common.{◌≡◌, ℕ, ◌<◌, ◌++◌, Bool, true, false, List, [], ◌∷◌, All, length, map, Option, Some, None, Result, Err, refl, sym, ap, ◌∙◌, subst, arith, is_none, slice_get}
+use Rattle.std.proofs.Common.{◌≡◌, ℕ, ◌<◌, ◌≤◌, ◌++◌, ◌&&◌, Bool, true, false, List, [], ◌∷◌, All, length, map, Option, Some, None, Result, Err, refl, sym, ap, ◌∙◌, inl, inr, subst, arith}
+use Rattle.std.specs.Prelude.{is_none, slice_get}
 use Rattle.c11_directives.proofs.PreLaws.{pre-unique}
-use Rattle.sc_base.specs.Interns as interns
-use Rattle.sc_base.specs.Interns.{Interns}
+use Rattle.c11_directives.specs.Footprints.{FilesHave}
 use Rattle.sc_base.specs.declared.fault.Fault as base
 use Rattle.sc_base.specs.declared.place.Place as declared
+use Rattle.sc_base.specs.Interns as interns
+use Rattle.sc_base.specs.Interns.{Interns}
+use Rattle.sc_guarded.specs.Printable.{IsShowable, IsShowableFault}
 use Rattle.sc_model.specs.Token as plain
 use Rattle.sc_prep.proofs.EnterLeads.{HasRefusal, has-lines, has-refusal}
-use Rattle.sc_prep.proofs.EnterMoves.{refused-here}
-use Rattle.sc_prep.proofs.Facts.{All-append, All-cons, All-nil, IsConfig-kept, IsTable-Extends, both_ways}
+use Rattle.sc_prep.proofs.EnterMoves.{refused-here, refused-not}
+use Rattle.sc_prep.proofs.Facts.{All-append, All-cons, All-nil, All-weaker, IsConfig-Keeps, IsConfig-kept, IsTable-Extends, and_parts, both_ways, cases_Bool, faults_at-Keeps, items_at-Keeps}
 use Rattle.sc_prep.proofs.FileTokens.{all-shown, faults-few}
 use Rattle.sc_prep.proofs.MainWalk.{begins-as, entered-ordinary, finds-main}
 use Rattle.sc_prep.proofs.Plain.{initial-plain}
-use Rattle.sc_prep.proofs.Stopping.{moments-as, stops-as}
-use Rattle.sc_prep.proofs.Terms.{AllPass, AreApart, AreContents, AreOnceHeld, ArePlaced, ArePlainPaths, CanBeShown, Cause, Comes, ComesInside, Cond, Content, Contents, Context, EntersAt, Extends, Fault, FileId, Files, Has, Includes, IsBegun, IsBetweenRuns, IsCond, IsConfig, IsContent, IsContext, IsHeldContent, IsListed, IsOrdinary, IsOutcomeOf, IsReady, IsRefused, IsSound, IsTable, Keeps, Leads, Machine, MacroTable, MomentsHave, Owns, OwnsList, PlainEach, Pre, Prepared, RefusesEach, Sets, Simulates, Space, Standard, State, Stop, StopsAmong, StopsAtPlace, Token, Walk, any_token, arities_of, content_at, context_of, end_of_file, end_place, entered, fault_at, faults_at, file_with, first_place, found_or, has_no_newline, has_none, initial_macros, initial_state, is_accepted, is_empty, is_plain, items_at, macros_at, option_to_list, seen, seen_fault, seen_place, start, text_at, unwrap_or}
+use Rattle.sc_prep.proofs.Stopping.{moments-as, stops-among, stops-as}
+use Rattle.sc_prep.proofs.Terms.{AllPass, AreApart, AreContents, AreOnceHeld, ArePlaced, ArePlainPaths, CanBeShown, Cause, Comes, ComesInside, Cond, Content, Contents, Context, Denotes, EntersAt, Extends, Fault, FileId, Files, Includes, IsBegun, IsBetweenRuns, IsCond, IsConfig, IsContent, IsContext, IsHeldContent, IsHeldWalk, IsOrdinary, IsOutcomeOf, IsReady, IsRefused, IsSound, IsStored, IsTable, Keeps, Leads, Machine, MacroTable, MomentsHave, Owns, OwnsList, PlainEach, Pre, Prepared, RefusesEach, Sets, Simulates, Space, Standard, State, Stop, StopsAmong, StopsAtPlace, Token, Walk, any_token, arities_of, content_at, context_of, end_of_file, end_place, entered, fault_at, faults_at, file_with, first_place, found_or, has_no_newline, has_none, initial_macros, initial_state, is_accepted, is_empty, is_plain, items_at, macros_at, option_to_list, seen, seen_fault, seen_place, start, text_at, unwrap_or}
 use Rattle.sc_prep.specs.declared.content.Content.TheVariants as content
+use Rattle.sc_prep.specs.Includes.{elsewhere, inert}
+use Rattle.sc_prep.specs.Preprocesses.{IsLeftOut, Stands}
+use Rattle.sc_prep.specs.Valid.{IsOf}
 
 -- ---- nothing was read yet
 
@@ -47,11 +53,89 @@ module _ {s : Sets} {names files : List (List ℕ)} (p : Prepared) (end : declar
   pub CanBeShown-end : CanBeShown s names files p → CanBeShown s names files (record p { end = end })
   CanBeShown-end shown = record { list = shown.list; faults = shown.faults; apart = shown.apart; paths = shown.paths }
 
+and-true : (b : Bool) → (b && true) ≡ b
+and-true true = refl
+and-true false = refl
+
+and-false : (b : Bool) → (b && false) ≡ false
+and-false true = refl
+and-false false = refl
+
+and-turned : (a b : Bool) → (a && b) ≡ (b && a)
+and-turned true b = sym (and-true b)
+and-turned false b = sym (and-false b)
+
+-- ---- the configurations of a condition alone are live
+
+module _ {s t : Sets} (keeps : Keeps s t) (names files : List (List ℕ)) (p : Prepared) (owns : OwnsList s p) (live : ℕ) (met : Cond)
+    (is : Denotes t met.0 (λ c. s.has p.live.0 c && s.has live c)) where
+  abbrev limited : Prepared
+  limited = record p { live = met }
+
+  module _ (config : List ℕ) (listed : IsConfig s.arities config) where
+    same-items : items_at t p.list config ≡ items_at s p.list config
+    same-items = items_at-Keeps p.list config keeps owns.list listed
+
+    same-faults : faults_at t p.faults.items config ≡ faults_at s p.faults.items config
+    same-faults = faults_at-Keeps p.faults.items config keeps owns.faults listed
+
+    met-at : t.has met.0 config ≡ (s.has p.live.0 config && s.has live config)
+    met-at = is.at config (IsConfig-Keeps keeps listed)
+
+    pub limited-ordinary : {preprocesses : Result (List plain.Token) Fault → Type 0} → s.has live config ≡ true → IsOrdinary s names files p preprocesses config
+        → IsOrdinary t names files limited preprocesses config
+    limited-ordinary {preprocesses} there ordinary = record {
+      answer = ordinary.answer;
+      preprocessed = ordinary.preprocessed;
+      stands = subst (λ items. Stands ordinary.answer (map (seen names files) items) (map (seen_fault files) (faults_at t p.faults.items config))) (sym same-items)
+          (subst (λ faults. Stands ordinary.answer (map (seen names files) (items_at s p.list config)) (map (seen_fault files) faults)) (sym same-faults) ordinary.stands);
+      live = met-at ∙ (ap (λ b. s.has p.live.0 config && b) there ∙ (and-true (s.has p.live.0 config) ∙ ordinary.live));
+    }
+
+    pub limited-out : s.has live config ≡ false → faults_at s p.faults.items config ≡ [] → IsLeftOut t limited config
+    limited-out out none = record {
+      faults = same-faults ∙ none;
+      live = met-at ∙ (ap (λ b. s.has p.live.0 config && b) out ∙ and-false (s.has p.live.0 config));
+    }
+
+    pub limited-live : s.has p.live.0 config ≡ has_none s p.faults.items config → t.has met.0 config ≡ (s.has live config && has_none t p.faults.items config)
+    limited-live same =
+        met-at ∙ (ap (λ b. b && s.has live config) (same ∙ ap is_empty (sym same-faults)) ∙ and-turned (has_none t p.faults.items config) (s.has live config))
+
+    -- where it is live now it was so before, and is one of these
+    pub limited-was : t.has met.0 config ≡ true → (s.has p.live.0 config ≡ true) × (s.has live config ≡ true)
+    limited-was now = and_parts (s.has p.live.0 config) (s.has live config) (sym met-at ∙ now)
+
+  pub limited-owns : OwnsList t limited
+  limited-owns = record {
+    list = All-weaker (λ (item : Cond × Token). IsCond s item.0.0) (λ (item : Cond × Token). IsCond t item.0.0) (λ (item : Cond × Token) own. keeps.own item.0.0 own) p.list owns.list;
+    faults = All-weaker (λ (f : base.Fault). IsCond s f.cond.0) (λ (f : base.Fault). IsCond t f.cond.0) (λ (f : base.Fault) own. keeps.own f.cond.0 own) p.faults.items owns.faults;
+    live = is.own;
+  }
+
+  pub limited-shown : CanBeShown s names files p → CanBeShown t names files limited
+  limited-shown shown = record {
+    list = All-weaker (IsShowable s names files) (IsShowable t names files)
+        (λ (item : Cond × Token) (h : IsShowable s names files item). record { own = keeps.own item.0.0 h.own; held = h.held; file = h.file; plain = h.plain }) p.list shown.list;
+    faults = All-weaker (IsShowableFault s files) (IsShowableFault t files)
+        (λ (f : base.Fault) (h : IsShowableFault s files f). record { own = keeps.own f.cond.0 h.own; file = h.file }) p.faults.items shown.faults;
+    apart = record {
+      few = λ config listed.
+          let before = IsConfig-kept keeps listed in
+          subst (λ faults. length faults ≤ 1) (sym (same-faults config before)) (shown.apart.few config before);
+    };
+    paths = shown.paths;
+  }
+
 no_fault-empty : (files : List (List ℕ)) (o : Option Fault) (faults : List base.Fault) → map (seen_fault files) faults ≡ option_to_list o → is_none o ≡ is_empty faults
 no_fault-empty files None [] is = refl
 no_fault-empty files None (f ∷ fs) is = cc
 no_fault-empty files (Some fault) [] is = cc
 no_fault-empty files (Some fault) (f ∷ fs) is = refl
+
+none-empty : (files : List (List ℕ)) (faults : List base.Fault) → map (seen_fault files) faults ≡ [] → faults ≡ []
+none-empty files [] is = refl
+none-empty files (f ∷ fs) is = cc
 
 -- a configuration is live where it has no fault
 pub live-outcome : {s : Sets} {files : List (List ℕ)} {p : Prepared} {config : List ℕ} {m : Machine} → IsOutcomeOf s files p config m → s.has p.live.0 config ≡ has_none s p.faults.items config
@@ -114,19 +198,20 @@ begins-new {s} {before} {names} {walk} {table} space files arities owns empty sa
 }
 
 module _ {s : Sets} {space : Space} {names files : List (List ℕ)} {walk : Walk} (fresh : IsNew s space names files walk) where
-  pub ready-new : {standard : Standard} {holds : Option Files} {contents : Contents} → AreContents standard names files holds contents → IsReady standard s names files holds walk contents
-  ready-new read = record {
-    owns = fresh.owns;
-    table = fresh.table;
-    held = record {
-      gathered = subst (ArePlaced names (length files)) (sym fresh.gathered) (λ k d h. absurd (omega (arith, h)));
-      list = subst (ArePlaced names (length files)) (sym fresh.list) (λ k d h. absurd (omega (arith, h)));
-      passed = subst (AllPass any_token) (sym fresh.list) (λ k d h. absurd (omega (arith, h)));
-      faults = subst (All (λ (f : base.Fault). f.place.file.0 < length files)) (sym fresh.faults) (λ k d h. absurd (omega (arith, h)));
-      once = subst (AreOnceHeld (length files)) (sym fresh.once) (λ k d h. absurd (omega (arith, h)));
-    };
-    read = read;
+  held-new : IsHeldWalk names (length files) any_token walk
+  held-new = record {
+    gathered = subst (ArePlaced names (length files)) (sym fresh.gathered) (λ k d h. absurd (omega (arith, h)));
+    list = subst (ArePlaced names (length files)) (sym fresh.list) (λ k d h. absurd (omega (arith, h)));
+    passed = subst (AllPass any_token) (sym fresh.list) (λ k d h. absurd (omega (arith, h)));
+    faults = subst (All (λ (f : base.Fault). f.place.file.0 < length files)) (sym fresh.faults) (λ k d h. absurd (omega (arith, h)));
+    once = subst (AreOnceHeld (length files)) (sym fresh.once) (λ k d h. absurd (omega (arith, h)));
   }
+
+  pub stored-new : IsStored s names (length files) walk
+  stored-new = record { owns = fresh.owns; table = fresh.table; held = held-new }
+
+  pub ready-new : {standard : Standard} {holds : Option Files} {contents : Contents} → AreContents standard names files holds contents → IsReady standard s names files holds walk contents
+  ready-new read = record { owns = fresh.owns; table = fresh.table; held = held-new; read = read }
 
   -- each configuration starts with macros that are spelled on one line
   pub plain-new : (main : List ℕ) → IsSound space → has_no_newline main ≡ true → PlainEach s names files walk IsBetweenRuns
@@ -142,65 +227,101 @@ module _ {s : Sets} {space : Space} {names files : List (List ℕ)} {walk : Walk
   pub none-passed : (test : Token → Bool) → AllPass test walk.prepared.list
   none-passed test = subst (AllPass test) (sym fresh.list) (λ k d h. absurd (omega (arith, h)))
 
-  -- every configuration is refused
-  module _ {next_sets : Sets} {next : Walk} (keeps : Keeps s next_sets) (main : List ℕ) (fault : base.Fault) (own : IsCond s fault.cond.0)
-      (everywhere : (config : List ℕ) → IsConfig s.arities config → s.has fault.cond.0 config ≡ true) (refuses : RefusesEach s walk (fault ∷ []) next_sets next) where
+  -- the configurations of a condition are refused
+  module _ {next_sets : Sets} {next : Walk} (keeps : Keeps s next_sets) (main : List ℕ) (fault : base.Fault) (own : IsCond s fault.cond.0) (refuses : RefusesEach s walk (fault ∷ []) next_sets next) where
     list-empty : next.prepared.list ≡ []
     list-empty = ap (λ (w : Walk). w.prepared.list) refuses.same ∙ fresh.list
 
     faults-one : next.prepared.faults.items ≡ fault ∷ []
     faults-one = refuses.faults ∙ ap (λ fs. fs ++ fault ∷ []) fresh.faults
 
-    ends-refused : (config : List ℕ) → IsConfig s.arities config → IsOutcomeOf next_sets files next.prepared config (record (start (initial_state space main config)) { fault = Some (seen_fault files fault) })
-    ends-refused config listed =
-        (refused-here keeps names files walk next fault refuses fresh.owns fresh.table config listed (start (initial_state space main config)) (fresh.starts main config listed)
-        own (everywhere config listed) refl).prepared
+    ends-refused : (config : List ℕ) → IsConfig s.arities config → s.has fault.cond.0 config ≡ true
+        → IsOutcomeOf next_sets files next.prepared config (record (start (initial_state space main config)) { fault = Some (seen_fault files fault) })
+    ends-refused config listed there =
+        (refused-here keeps names files walk next fault refuses fresh.owns fresh.table config listed (start (initial_state space main config)) (fresh.starts main config listed) own there refl).prepared
 
-    pub refused-is : (config : List ℕ) → IsConfig s.arities config → IsRefused next_sets names files next.prepared (seen_fault files fault) config
-    refused-is config listed =
-        let ends = ends-refused config listed in
-        record { items = ap (λ list. map (seen names files) (items_at next_sets list config)) list-empty; faults = ends.fault; live = ends.live }
+    ends-out : (config : List ℕ) → IsConfig s.arities config → s.has fault.cond.0 config ≡ false → IsOutcomeOf next_sets files next.prepared config (start (initial_state space main config))
+    ends-out config listed out =
+        (refused-not keeps names files walk next fault refuses fresh.owns fresh.table config listed (start (initial_state space main config)) (fresh.starts main config listed) own out).prepared
 
-    pub refused-live : (config : List ℕ) → IsConfig s.arities config → next_sets.has next.prepared.live.0 config ≡ has_none next_sets next.prepared.faults.items config
-    refused-live config listed = live-outcome (ends-refused config listed)
+    -- what an end has at a configuration: the fault or none
+    refused-few : (config : List ℕ) → IsConfig s.arities config → length (faults_at next_sets next.prepared.faults.items config) ≤ 1
+    refused-few config listed = elim (cases_Bool (s.has fault.cond.0 config)) [
+      | inl there ↦ faults-few next_sets files next.prepared.faults.items config (Some (seen_fault files fault)) (ends-refused config listed there).fault
+      | inr out ↦ faults-few next_sets files next.prepared.faults.items config None (ends-out config listed out).fault
+    ]
 
-    pub refused-owns : OwnsList next_sets next.prepared
-    refused-owns = record {
-      list = subst (All (λ (item : Cond × Token). IsCond next_sets item.0.0)) (sym list-empty) (λ k d h. absurd (omega (arith, h)));
-      faults = subst (All (λ (f : base.Fault). IsCond next_sets f.cond.0)) (sym faults-one) (All-cons (λ (f : base.Fault). IsCond next_sets f.cond.0) fault [] (keeps.own fault.cond.0 own)
-          (All-nil (λ (f : base.Fault). IsCond next_sets f.cond.0)));
-      live = refuses.live.own;
-    }
+    -- where nothing is live any more
+    module _ (never : Cond) (is : Denotes next_sets never.0 (λ c. false)) where
+      abbrev ended : Prepared
+      ended = record next.prepared { live = never }
 
-    pub refused-shown : fault.place.file.0 < length files → ArePlainPaths files → CanBeShown next_sets names files next.prepared
-    refused-shown there paths =
-        let plain : AllPass (is_plain names) next.prepared.list = subst (AllPass (is_plain names)) (sym list-empty) (λ k d h. absurd (omega (arith, h))) in
-        all-shown next_sets names files next.prepared refused-owns (record {
-          gathered = λ k d h. absurd (omega (arith, h));
-          list = subst (ArePlaced names (length files)) (sym list-empty) (λ k d h. absurd (omega (arith, h)));
-          passed = subst (AllPass any_token) (sym list-empty) (λ k d h. absurd (omega (arith, h)));
-          faults = subst (All (λ (f : base.Fault). f.place.file.0 < length files)) (sym faults-one) (All-cons (λ (f : base.Fault). f.place.file.0 < length files) fault [] there
-              (All-nil (λ (f : base.Fault). f.place.file.0 < length files)));
-          once = λ k d h. absurd (omega (arith, h));
-        }) plain (record { few = λ config listed. faults-few next_sets files next.prepared.faults.items config (Some (seen_fault files fault)) (ends-refused config (IsConfig-kept keeps listed)).fault }) paths
+      dead : (config : List ℕ) → IsConfig s.arities config → next_sets.has never.0 config ≡ false
+      dead config listed = is.at config (IsConfig-Keeps keeps listed)
 
-  -- the main file is entered
+      pub refused-is : (config : List ℕ) → IsConfig s.arities config → s.has fault.cond.0 config ≡ true → IsRefused next_sets names files ended (seen_fault files fault) config
+      refused-is config listed there = record {
+        items = ap (λ list. map (seen names files) (items_at next_sets list config)) list-empty;
+        faults = (ends-refused config listed there).fault;
+        live = dead config listed;
+      }
+
+      pub refused-out : (config : List ℕ) → IsConfig s.arities config → s.has fault.cond.0 config ≡ false → IsLeftOut next_sets ended config
+      refused-out config listed out = record { faults = none-empty files (faults_at next_sets next.prepared.faults.items config) (ends-out config listed out).fault; live = dead config listed }
+
+      pub refused-live : (config : List ℕ) → IsConfig s.arities config → next_sets.has never.0 config ≡ (s.has fault.cond.0 config && has_none next_sets next.prepared.faults.items config)
+      refused-live config listed = dead config listed ∙ sym (elim (cases_Bool (s.has fault.cond.0 config)) [
+        | inl there ↦ ap (λ b. b && has_none next_sets next.prepared.faults.items config) there ∙ sym (no_fault-empty files (Some (seen_fault files fault)) (faults_at next_sets next.prepared.faults.items config) (ends-refused config listed there).fault)
+        | inr out ↦ ap (λ b. b && has_none next_sets next.prepared.faults.items config) out
+      ])
+
+      pub refused-owns : OwnsList next_sets ended
+      refused-owns = record {
+        list = subst (All (λ (item : Cond × Token). IsCond next_sets item.0.0)) (sym list-empty) (λ k d h. absurd (omega (arith, h)));
+        faults = subst (All (λ (f : base.Fault). IsCond next_sets f.cond.0)) (sym faults-one) (All-cons (λ (f : base.Fault). IsCond next_sets f.cond.0) fault [] (keeps.own fault.cond.0 own)
+            (All-nil (λ (f : base.Fault). IsCond next_sets f.cond.0)));
+        live = is.own;
+      }
+
+      pub refused-shown : fault.place.file.0 < length files → ArePlainPaths files → CanBeShown next_sets names files ended
+      refused-shown there paths =
+          let plain : AllPass (is_plain names) next.prepared.list = subst (AllPass (is_plain names)) (sym list-empty) (λ k d h. absurd (omega (arith, h))) in
+          all-shown next_sets names files ended refused-owns (record {
+            gathered = λ k d h. absurd (omega (arith, h));
+            list = subst (ArePlaced names (length files)) (sym list-empty) (λ k d h. absurd (omega (arith, h)));
+            passed = subst (AllPass any_token) (sym list-empty) (λ k d h. absurd (omega (arith, h)));
+            faults = subst (All (λ (f : base.Fault). f.place.file.0 < length files)) (sym faults-one) (All-cons (λ (f : base.Fault). f.place.file.0 < length files) fault [] there
+                (All-nil (λ (f : base.Fault). f.place.file.0 < length files)));
+            once = λ k d h. absurd (omega (arith, h));
+          }) plain (record { few = λ config listed. refused-few config (IsConfig-kept keeps listed) }) paths
+
+  -- the main file is entered in the configurations of a condition
   module _ {x : Context} {next_sets : Sets} {more more_files : List (List ℕ)} {next : Walk} (keeps : Keeps s next_sets) (main : List ℕ) (file : FileId) (cond : Cond)
-      (named : slice_get files file.0 ≡ Some main) (everywhere : (config : List ℕ) → IsConfig s.arities config → s.has cond.0 config ≡ true)
+      (named : slice_get files file.0 ≡ Some main)
       (leads : Leads files names s walk more_files more next_sets next IsBetweenRuns (λ config m n. EntersAt x (text_at files file.0) 0 m (s.has cond.0 config) n)) where
     ends-entered : (config : List ℕ) → IsConfig s.arities config
-        → (n : Machine) × EntersAt x main 0 (start (initial_state space main config)) true n × Simulates next_sets more more_files next config n
+        → (n : Machine) × EntersAt x main 0 (start (initial_state space main config)) (s.has cond.0 config) n × Simulates next_sets more more_files next config n
     ends-entered config listed =
         let first = start (initial_state space main config) in
         let end = leads.at config first listed (fresh.starts main config listed) (λ acting. refl) in (
           end.machine,
-          subst (λ has. EntersAt x main 0 first has end.machine) (everywhere config listed)
-              (subst (λ name. EntersAt x name 0 first (s.has cond.0 config) end.machine) (ap (λ (o : Option (List ℕ)). unwrap_or o []) named) end.done),
+          subst (λ name. EntersAt x name 0 first (s.has cond.0 config) end.machine) (ap (λ (o : Option (List ℕ)). unwrap_or o []) named) end.done,
           end.simulates,
         )
 
     pub entered-live : (config : List ℕ) → IsConfig s.arities config → next_sets.has next.prepared.live.0 config ≡ has_none next_sets next.prepared.faults.items config
     entered-live config listed = live-outcome (ends-entered config listed).2.prepared
+
+    -- a configuration that doesn't enter it has no fault
+    pub entered-out : (config : List ℕ) → IsConfig s.arities config → s.has cond.0 config ≡ false → faults_at next_sets next.prepared.faults.items config ≡ []
+    entered-out config listed out =
+        let end = ends-entered config listed in
+        none-empty more_files (faults_at next_sets next.prepared.faults.items config)
+        (end.2.prepared.fault ∙ ap option_to_list (unfaulty (subst (λ has. EntersAt x main 0 (start (initial_state space main config)) has end.0) out end.1)))
+      where
+        unfaulty : {n : Machine} → EntersAt x main 0 (start (initial_state space main config)) false n → n.fault ≡ None
+        unfaulty elsewhere = refl
+        unfaulty (inert idle) = refl
 
     entered-apart : AreApart next_sets next.prepared.faults.items
     entered-apart = record {
@@ -214,21 +335,23 @@ module _ {s : Sets} {space : Space} {names files : List (List ℕ)} {walk : Walk
         (record { gathered = λ k d h. absurd (omega (arith, h)); list = ready.held.list; passed = ready.held.passed; faults = ready.held.faults; once = λ k d h. absurd (omega (arith, h)) }) plain entered-apart paths
 
   pub entered-is : {next_sets : Sets} {more more_files : List (List ℕ)} {next : Walk} (keeps : Keeps s next_sets) (main : List ℕ) (outside : Files) (file : FileId) (cond : Cond)
-      (named : slice_get files file.0 ≡ Some main) (everywhere : (config : List ℕ) → IsConfig s.arities config → s.has cond.0 config ≡ true)
+      (named : slice_get files file.0 ≡ Some main)
       → Leads files names s walk more_files more next_sets next IsBetweenRuns (λ config m n. EntersAt (context_of space outside) (text_at files file.0) 0 m (s.has cond.0 config) n)
-      → (config : List ℕ) → IsConfig s.arities config → IsOrdinary next_sets more more_files next.prepared (Pre space outside main config) config
-  entered-is {next_sets} {more} {more_files} {next} keeps main outside file cond named everywhere leads config listed =
-      let end = ends-entered keeps main file cond named everywhere leads config listed in
-      entered-ordinary next_sets more more_files next.prepared space outside main config end.1 end.2.prepared _ end.2.text
+      → (config : List ℕ) → IsConfig s.arities config → s.has cond.0 config ≡ true → IsOrdinary next_sets more more_files next.prepared (Pre space outside main config) config
+  entered-is {next_sets} {more} {more_files} {next} keeps main outside file cond named leads config listed there =
+      let end = ends-entered keeps main file cond named leads config listed in
+      entered-ordinary next_sets more more_files next.prepared space outside main config
+      (subst (λ has. EntersAt (context_of space outside) main 0 (start (initial_state space main config)) has end.0) there end.1) end.2.prepared _ end.2.text
 
   -- each footprint to which the main file comes is one of the configuration
   pub entered-stops : (main : List ℕ) (outside : Files) (file : FileId) (cond : Cond) → slice_get files file.0 ≡ Some main → (limit : ℕ) (stop : Stop)
       → StopsAtPlace s.arities (Comes s names files walk IsBetweenRuns (λ config m f. (s.has cond.0 config ≡ true) × MomentsHave (ComesInside (context_of space outside) (text_at files file.0) 0 m) f)) limit stop
-      → StopsAmong (IsListed space) (Has space outside main) limit stop
-  entered-stops main outside file cond named limit stop stops = subst (λ a. StopsAtPlace a (Has space outside main) limit stop) fresh.arities (stops-as (λ at. at) _ limit stop (λ config f listed comes.
+      → StopsAmong (IsOf s cond.0) (FilesHave space outside main) limit stop
+  entered-stops main outside file cond named limit stop stops = stops-as (λ at. at) _ limit stop (λ config f one comes.
       let first = start (initial_state space main config) in
       moments-as
       (λ k comes.
       let inside = subst (λ name. ComesInside (context_of space outside) name 0 first f.0.chain k) (ap (λ (o : Option (List ℕ)). unwrap_or o []) named) comes in
       record { file = inside.file; found = finds-main outside main inside.file inside.named inside.there; reaches = inside.reaches })
-      (comes first (fresh.starts main config listed) (λ acting. refl)).1) stops)
+      (comes first (fresh.starts main config one.formed) (λ acting. refl)).1)
+      (stops-among limit stop (λ config f listed comes. record { formed = listed; has = (comes (start (initial_state space main config)) (fresh.starts main config listed) (λ acting. refl)).0 }) stops)

@@ -1,5 +1,6 @@
 -- Walks that stop because one place has too many footprints.
-use Rattle.std.proofs.Common.{◌≡◌, ℕ, List, [], ◌∷◌, Result, Ok, Err, sym, subst, IfErr}
+use Rattle.std.proofs.Common.{◌≡◌, ℕ, List, [], ◌∷◌, get_or, Result, Ok, Err, sym, subst}
+use Rattle.std.specs.Prelude.{IfErr}
 use Rattle.sc_prep.proofs.Facts.{IfErr-weaker}
 use Rattle.sc_prep.proofs.Terms.{BranchesFull, HasFootprints, IsConfig, Moment, MomentsHave, Origin, OutOfMemory, Place, ReadFault, ReadsNothing, SourceFootprint, Spot, Stop, StopsAmong, StopsAtPlace}
 
@@ -21,6 +22,20 @@ pub stops-as : {K L V : Type 0} {is_listed : List ℕ → Type 0} {P : List ℕ 
 stops-as at Q limit (BranchesFull count) to h = footprints-as at to h
 stops-as at Q limit ReadFault to h = tt
 stops-as at Q limit OutOfMemory to h = tt
+
+-- those that have something are of another kind, too
+pub stops-among : {K V : Type 0} {is_listed is_other : List ℕ → Type 0} {has : List ℕ → K × V → Type 0} (limit : ℕ) (stop : Stop)
+    → ((c : List ℕ) (f : K × V) → is_listed c → has c f → is_other c) → StopsAmong is_listed has limit stop → StopsAmong is_other has limit stop
+stops-among limit (BranchesFull count) to h = record {
+  at = h.at;
+  footprints = h.footprints;
+  many = h.many;
+  listed = λ k d below. to (get_or h.footprints k d).0 (h.at, (get_or h.footprints k d).1) (h.listed k d below) (h.each k d below);
+  each = h.each;
+  apart = h.apart;
+}
+stops-among limit ReadFault to h = tt
+stops-among limit OutOfMemory to h = tt
 
 -- the same of an answer, where the store may have grown
 pub answer-stops : {A K L V : Type 0} {arities other : List ℕ} {P : List ℕ → K × V → Type 0} (at : K → L) (Q : List ℕ → L × V → Type 0) (limit : ℕ) (r : Result A Stop) → other ≡ arities

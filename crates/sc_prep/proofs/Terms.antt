@@ -59,7 +59,7 @@ pub use Rattle.sc_model.specs.Fault.{Fault, fault_at, first_place}
 pub use Rattle.sc_model.specs.Growth.{Extends, IsOneToOne}
 pub use Rattle.sc_model.specs.Outside.{Files, largest_file}
 pub use Rattle.sc_model.specs.Sets.{Denotes, IsCond, IsConfig, IsNever, Keeps, Sets}
-pub use Rattle.sc_model.specs.Space.{IsListed, Space, VariableOption, arities_of}
+pub use Rattle.sc_model.specs.Space.{Space, VariableOption, arities_of}
 pub use Rattle.sc_model.specs.Token.{Lexeme, Place, Position, in_file, name_of}
 pub use Rattle.sc_model.specs.declared.cause.Cause.{Cause}
 pub use Rattle.sc_model.specs.declared.cause.Cause.TheVariants.{BadDirective, BadIf, BadInclude, BadNesting, ErrorDirective, FileTooLarge, IncludeDepth, NotFound, ProtectedName, Redefined, UnterminatedComment}

@@ -17,3 +17,4 @@ pub mod Printable
 pub mod Settles
 pub mod Simulates
 pub mod Stages
+pub mod Valid

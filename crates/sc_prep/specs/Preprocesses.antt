@@ -35,14 +35,20 @@ pub record IsOrdinary (s : Sets) (names files : List (List ℕ)) (p : Prepared) 
   pub stands : Stands answer (map (seen names files) (items_at s p.list config)) (map (seen_fault files) (faults_at s p.faults.items config))
   pub live : s.has p.live.0 config ≡ is_accepted answer
 
--- At each configuration the lists are what ordinary preprocessing gives there, of files that the
--- source may hold: where it tells what it holds, of these. Where a configuration is live the end
--- is that of the main file.
-pub record IsPreparedFrom (arities : List ℕ) (s : Sets) (names files : List (List ℕ)) (p : Prepared) (space : Space) (holds : Option Files) (main : List ℕ) : Type 0 where
+-- the configuration is left out: it has no fault, and it is not live
+pub record IsLeftOut (s : Sets) (p : Prepared) (config : List ℕ) : Type 0 where
+  pub faults : faults_at s p.faults.items config ≡ []
+  pub live : s.has p.live.0 config ≡ false
+
+-- At each configuration that was live the lists are what ordinary preprocessing gives there, of
+-- files that the source may hold: where it tells what it holds, of these. The others are left out.
+-- Where a configuration is live the end is that of the main file.
+pub record IsPreparedFrom (old : Sets) (live : ℕ) (s : Sets) (names files : List (List ℕ)) (p : Prepared) (space : Space) (holds : Option Files) (main : List ℕ) : Type 0 where
   pub outside : Files
   pub held : (told : Files) → holds ≡ Some told → outside ≡ told
-  pub ordinary : (config : List ℕ) → IsConfig arities config → IsOrdinary s names files p (Pre space outside main config) config
-  pub ends : (bytes : List ℕ) (config : List ℕ) → outside main ≡ Some bytes → IsConfig arities config → s.has p.live.0 config ≡ true → seen_place files p.end ≡ end_of_file main bytes
+  pub ordinary : (config : List ℕ) → IsConfig old.arities config → old.has live config ≡ true → IsOrdinary s names files p (Pre space outside main config) config
+  pub others : (config : List ℕ) → IsConfig old.arities config → old.has live config ≡ false → IsLeftOut s p config
+  pub ends : (bytes : List ℕ) (config : List ℕ) → outside main ≡ Some bytes → IsConfig old.arities config → s.has p.live.0 config ≡ true → seen_place files p.end ≡ end_of_file main bytes
 
 -- the configuration has this fault alone
 pub record IsRefused (s : Sets) (names files : List (List ℕ)) (p : Prepared) (fault : Fault) (config : List ℕ) : Type 0 where

@@ -20,7 +20,9 @@ mod numbering;
 mod once;
 mod prepared;
 mod settling;
+mod valid;
 mod walk;
 
 pub use main_file::preprocess;
 pub use prepared::Prepared;
+pub use valid::{ValidStop, valid_set};

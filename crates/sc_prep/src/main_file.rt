@@ -1,50 +1,53 @@
-ghost use Rattle.std.specs.Prelude.{◌≡◌, ℕ, ◌<◌, ◌≤◌, length, true, List, Some, IfOk, IfErr};
+ghost use Rattle.std.specs.Prelude.{◌≡◌, ℕ, ◌<◌, ◌≤◌, ◌&&◌, length, true, List, Some, IfOk, IfErr};
 ghost use Rattle.sc_model.specs.Bytes.{has_no_newline};
 ghost use Rattle.sc_model.specs.Growth.{Extends};
 ghost use Rattle.sc_model.specs.Outside.{Files as Outside};
-ghost use Rattle.c11_directives.specs.Footprints.{Has};
-ghost use Rattle.sc_model.specs.Sets.{IsConfig, Keeps};
-ghost use Rattle.sc_model.specs.Space.{IsListed, arities_of};
+ghost use Rattle.c11_directives.specs.Footprints.{FilesHave};
+ghost use Rattle.sc_model.specs.Sets.{IsCond, IsConfig, Keeps};
+ghost use Rattle.sc_model.specs.Space.{arities_of};
 ghost use Rattle.sc_space.specs.Seen.{seen_space};
 ghost use Rattle.sc_space.specs.Sound.{IsSound};
 ghost use Rattle.sc_prep.specs.Closes.{has_none};
 ghost use Rattle.sc_prep.specs.Footprints.{StopsAmong};
 ghost use Rattle.sc_prep.specs.Preprocesses.{IsPreparedFrom, OwnsList, Stops};
 ghost use Rattle.sc_prep.specs.Printable.{ArePlainPaths, CanBeShown};
+ghost use Rattle.sc_prep.specs.Valid.{IsOf};
 
 use crate::content::{Contents, end_place, first_place};
 use crate::entry::Entry;
 use crate::prepared::Prepared;
 use crate::walk::Walk;
-use sc_base::{Cause, Fault, Files, Names, Stop};
+use sc_base::{Cause, Cond, Fault, Files, Names, Stop};
 use sc_presence::Conditions;
 use sc_source::Source;
 use sc_space::Space;
 use sc_table::MacroTable;
 use std::alloc::Global;
 
-/// The tokens and the faults of the main file under all configurations.
+/// The tokens and the faults of the main file under the configurations of `live`.
 #[tactic(auto, using(sc_model::proofs::SetLemmas::conditions))]
 pub fn preprocess<C: Conditions, S: Source>(
     alloc: Global,
     src: &mut S,
     main: &str,
     space: &Space,
+    live: Cond,
     conds: &mut C,
     names: &mut Names,
     files: &mut Files,
 ) -> Result<Prepared, Stop>
     requires space { (C.sets conds.old).arities ≡ arities_of (seen_space space.now) }
     requires sound { IsSound (seen_space space.now) }
-    ensures ordinary { IfOk result (λ p. IsPreparedFrom (C.sets conds.old).arities (C.sets conds.new) names.new files.new p (seen_space space.now) (S.holds src.old) main.now) }
+    requires live_own { IsCond (C.sets conds.old) live.0 }
+    ensures ordinary { IfOk result (λ p. IsPreparedFrom (C.sets conds.old) live.0 (C.sets conds.new) names.new files.new p (seen_space space.now) (S.holds src.old) main.now) }
     ensures end_held { IfOk result (λ p. p.end.file.0 < length files.new) }
     ensures live { IfOk result (λ p. (config : List ℕ) → IsConfig (C.sets conds.old).arities config
-        → (C.sets conds.new).has p.live.0 config ≡ has_none (C.sets conds.new) p.faults.items config) }
+        → (C.sets conds.new).has p.live.0 config ≡ ((C.sets conds.old).has live.0 config && has_none (C.sets conds.new) p.faults.items config)) }
     ensures owns { IfOk result (OwnsList (C.sets conds.new)) }
     ensures shown { ArePlainPaths files.old → has_no_newline main.now ≡ true → IfOk result (CanBeShown (C.sets conds.new) names.new files.new) }
     ensures stops { IfErr result (Stops (C.sets conds.old).arities (seen_space space.now).branches (S.faults src.old) (S.faults src.new)) }
-    ensures footprints { (outside : Outside) → S.holds src.old ≡ Some outside → IfErr result (StopsAmong (IsListed (seen_space space.now))
-        (Has (seen_space space.now) outside main.now) (seen_space space.now).branches) }
+    ensures footprints { (outside : Outside) → S.holds src.old ≡ Some outside → IfErr result (StopsAmong (IsOf (C.sets conds.old) live.0)
+        (FilesHave (seen_space space.now) outside main.now) (seen_space space.now).branches) }
 
     // at every outcome
     ensures kept { S.holds src.new ≡ S.holds src.old }
@@ -57,14 +60,15 @@ pub fn preprocess<C: Conditions, S: Source>(
     let table = MacroTable::start(alloc, space, names)?;
     let mut walk = Walk::new(alloc, conds, table, first_place(file))?;
     let mut contents = Contents::new(alloc);
-    let always = conds.always();
     let Some(content) = contents.read(alloc, src, names, files, file, space.standard)? else {
         let fault = Fault {
-            cond: always,
+            cond: live,
             cause: Cause::NotFound,
             place: first_place(file),
         };
         walk.refuse_at(conds, fault)?;
+        let never = conds.never();
+        walk.prepared.live = never;
         return Ok(walk.prepared);
     };
     let entry = Entry { file, depth: 0 };
@@ -77,9 +81,11 @@ pub fn preprocess<C: Conditions, S: Source>(
         files,
         &mut contents,
         entry,
-        always,
+        live,
         &content,
     )?;
+    let met = conds.apply_and(walk.prepared.live, live)?;
+    walk.prepared.live = met;
     walk.prepared.end = end_place(&content);
     Ok(walk.prepared)
 }
