@@ -1,6 +1,7 @@
 -- That the choices of a text are sound, and when it has a root.
 use Rattle.std.proofs.Common.{◌≡◌, ◌∙◌, ℕ, zero, suc, ◌<◌, Bool, true, false, List, [], ◌∷◌, get_or, length, slice_get, map, Option, Some, None, Result, Ok, Err, arith, refl, sym, ap, subst}
 use Rattle.c11_parsing.specs.Trees.{Condition, Tree}
+use Rattle.c11_directives.specs.Listed.{IsListed}
 use Rattle.sc_base.specs.declared.id.Cond.{Cond}
 use Rattle.sc_base.specs.declared.id.TreeId.{TreeId}
 use Rattle.sc_core.proofs.TreeTelling.{result-at, shown-faults}
@@ -13,7 +14,7 @@ use Rattle.sc_fork.specs.Choices.{AreSound}
 use Rattle.sc_guarded.specs.Items.{seen_fault}
 use Rattle.sc_model.specs.Fault.{Fault}
 use Rattle.sc_model.specs.Sets.{Sets, IsConfig, Keeps}
-use Rattle.sc_model.specs.Space.{Space, IsListed, arities_of}
+use Rattle.sc_model.specs.Space.{Space, arities_of}
 use Rattle.sc_show.proofs.TreeResults.{choice-stored}
 use Rattle.sc_text.proofs.TextLaws.{reads-unique}
 use Rattle.sc_text.specs.Answer.{Answer, At, HasSoundChoices, IsRooted, PartsConfigs, accepted, choice_part, project, refused, tree_parts}
@@ -39,10 +40,10 @@ first-of [] h = absurd (omega arith)
 first-of (x ∷ xs) h = x
 
 module _ {s : Sets} (space : Space) (store : List Line) (ids : List TreeId) (arities : s.arities ≡ arities_of space) (sound : AreSound s store) where
-  here : (c : List ℕ) → IsListed space c → IsConfig s.arities c
+  here : (c : List ℕ) → IsConfig (arities_of space) c → IsConfig s.arities c
   here c listed = subst (λ ns. IsConfig ns c) (sym arities) listed
 
-  there : (c : List ℕ) → IsConfig s.arities c → IsListed space c
+  there : (c : List ℕ) → IsConfig s.arities c → IsConfig (arities_of space) c
   there c config = subst (λ ns. IsConfig ns c) arities config
 
   pub parts-configs : (tests : List (Condition × ℕ)) → IsChoiceOf s store ids tests → PartsConfigs space tests
@@ -79,15 +80,14 @@ module _ {s new : Sets} (keeps : Keeps s new) (names files : List (List ℕ)) (s
       by no_root at = cc
       by (root_of id n there) at = (id, refl)
 
-  pub rooted : HasAnswers (seen_by s names files p) p.root p.faults.items → IsRooted space shows.answer
+  pub rooted : HasAnswers (IsListed space) (seen_by s names files p) p.root p.faults.items → IsRooted (IsListed space) shows.answer
   rooted answers = record {
     some = λ number at.
         let root = rooted-by number shows.root_is at in
         let found = answers.some root.0 root.1 in
-        let listed = subst (λ ns. IsConfig ns found.0) arities found.1.0 in
-        (found.0, (listed, shown-faults keeps names files space p text shows shown arities found.0 listed ∙ ap (map (seen_fault files)) found.1.1.1.0));
+        (found.0, (found.1.0, shown-faults keeps names files space p text shows shown arities found.0 found.1.0 ∙ ap (map (seen_fault files)) found.1.1.1.0));
     none = λ rootless config listed none.
-        let at = answers.each config (subst (λ ns. IsConfig ns config) (sym arities) listed) in
+        let at = answers.each config listed in
         unrefused config at.0 (result-at keeps names files space p text shows shown arities config listed at.0 at.1) none rootless;
   }
 
@@ -116,8 +116,8 @@ module _ {of : Setting} {pieces : List (List ℕ)} {told : Bool} (text : IsParse
   pub root-accepted : ((config : List ℕ) → IsListed of.space config → project answer.faults config ≡ [] → ⊥) → answer.body.root ≡ None
   root-accepted refuses = by answer.body.root refl
     where
-      is : IsRooted of.space answer
-      is = subst (IsRooted of.space) same text.rooted
+      is : IsRooted (IsListed of.space) answer
+      is = subst (IsRooted (IsListed of.space)) same text.rooted
 
       by : (root : Option ℕ) → answer.body.root ≡ root → answer.body.root ≡ None
       by None at = at

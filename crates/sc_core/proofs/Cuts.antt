@@ -1,5 +1,5 @@
 -- A space that has one configuration alone.
-use Rattle.std.proofs.Common.{◌≡◌, ◌∙◌, ℕ, zero, suc, ◌+◌, ◌<◌, ◌≤◌, ◌++◌, List, [], ◌∷◌, All, map, length, get_or, slice_get, take, drop, Option, Result, arith, refl, sym, ap, ap₂, subst}
+use Rattle.std.proofs.Common.{◌≡◌, ◌∙◌, ℕ, zero, suc, ◌+◌, ◌<◌, ◌≤◌, ◌++◌, Bool, List, [], ◌∷◌, All, map, length, get_or, slice_get, take, drop, None, Option, Result, arith, refl, sym, ap, ap₂, subst}
 use Rattle.std.proofs.lemmas.List.{length-map, map-append, take_all}
 use Rattle.std.proofs.lemmas.List.Elements.{All-cons, All-nil, All-head, All-tail, All-take, All-drop}
 use Rattle.std.proofs.lemmas.Option.{slice_get_within}
@@ -7,16 +7,19 @@ use Rattle.std.proofs.Math.ListN.{get_or-map}
 use Rattle.std.proofs.Math.Path.{fun_ext}
 use Rattle.std.specs.Option.{option_and_then, option_or}
 use Rattle.std.specs.Prelude.{replicate, string_bytes, AllPairs, slice_index, if◌then◌else◌}
-use Rattle.c11_directives.specs.Pre.{Includes, Pre, context_of}
+use Rattle.c11_directives.specs.Lines.{Line}
+use Rattle.c11_directives.specs.Listed.{SaysValid, absent, decided, unread}
+use Rattle.c11_directives.specs.Pre.{Decides, Includes, Pre, context_of}
 use Rattle.c11_macros.specs.Macros.{Definition, Macros, definition_of, definition_named, initial_macros, predefined_macros, variable_definition}
 use Rattle.sc_core.specs.Cut.{cut_space, cut_variables, first_config}
 use Rattle.sc_core.specs.Ordinary.{HasManyConfigs}
 use Rattle.sc_model.specs.Bytes.{same_bytes}
+use Rattle.sc_model.specs.declared.cause.Cause.{Cause}
 use Rattle.sc_model.specs.Fault.{Fault, first_place}
 use Rattle.sc_model.specs.Growth.{IsOneToOne}
 use Rattle.sc_model.specs.Outside.{Files}
 use Rattle.sc_model.specs.Sets.{HasOptions, IsConfig}
-use Rattle.sc_model.specs.Space.{IsListed, Space, Variable, VariableOption, arities_of}
+use Rattle.sc_model.specs.Space.{Space, Variable, VariableOption, arities_of}
 use Rattle.sc_model.specs.Token.{Token}
 use Rattle.sc_space.specs.declared.space.Space as whole
 use Rattle.sc_space.specs.declared.space.Variable as code
@@ -171,7 +174,7 @@ ones-at (v ∷ vs) (suc i) h = ones-at vs i (omega arith)
 ones-options : (vs : List Variable) → HasOptions (ones vs)
 ones-options vs = record { each = λ i h. let one = ones-at vs i h in omega arith }
 
-pub cut-sound : (space : Space) (config : List ℕ) → IsListed space config → IsSound space → IsSound (cut_space space config)
+pub cut-sound : (space : Space) (config : List ℕ) → IsConfig (arities_of space) config → IsSound space → IsSound (cut_space space config)
 cut-sound space config listed sound =
     let names = names-cut space.variables config listed in
     let sized = sizes-cut space.variables config listed in
@@ -221,15 +224,15 @@ zeros-cut [] ks config = refl
 zeros-cut (v ∷ vs) [] config = no-config (length v.options) (sizes vs) config
 zeros-cut (v ∷ vs) (k ∷ ks) config = ap (λ ns. 0 ∷ ns) (zeros-cut vs ks (tail-config (length v.options) k (sizes vs) ks config))
 
-module _ (space : Space) (config : List ℕ) (listed : IsListed space config) where
+module _ (space : Space) (config : List ℕ) (listed : IsConfig (arities_of space) config) where
   pub first-cut : first_config (cut_space space config) ≡ first_config space
   first-cut = zeros-cut space.variables config listed
 
-  pub one-config : (c : List ℕ) → IsListed (cut_space space config) c → c ≡ first_config (cut_space space config)
+  pub one-config : (c : List ℕ) → IsConfig (arities_of (cut_space space config)) c → c ≡ first_config (cut_space space config)
   one-config c is = zeros-only space.variables c (subst (λ ns. IsConfig ns c) (sizes-cut space.variables config listed) is) ∙ sym first-cut
 
-  pub first-listed : IsListed (cut_space space config) (first_config (cut_space space config))
-  first-listed =
+  pub first-formed : IsConfig (arities_of (cut_space space config)) (first_config (cut_space space config))
+  first-formed =
       subst (λ ns. IsConfig ns (first_config (cut_space space config))) (sym (sizes-cut space.variables config listed)) (subst (IsConfig (ones space.variables)) (sym first-cut) (zeros-listed space.variables))
 
 -- ---- ordinary preprocessing there is that of the configuration
@@ -242,11 +245,11 @@ variable-cut (v ∷ vs) (k ∷ ks) name config =
     ap₂ (λ (o : Option VariableOption) (d : Option Definition). if same_bytes v.name name then option_and_then definition_of o else d) (get-one v.options k)
     (variable-cut vs ks name (tail-config (length v.options) k (sizes vs) ks config))
 
-macros-cut : (space : Space) (config : List ℕ) → IsListed space config → initial_macros (cut_space space config) (first_config (cut_space space config)) ≡ initial_macros space config
+macros-cut : (space : Space) (config : List ℕ) → IsConfig (arities_of space) config → initial_macros (cut_space space config) (first_config (cut_space space config)) ≡ initial_macros space config
 macros-cut space config listed =
     fun_ext (λ name. ap (λ (d : Option Definition). option_or (definition_named (predefined_macros space.date space.time) name) d) (variable-cut space.variables config name listed))
 
-pub pre-cut : {space : Space} {files : Files} {main config : List ℕ} {r : Result (List Token) Fault} → IsListed space config
+pub pre-cut : {space : Space} {files : Files} {main config : List ℕ} {r : Result (List Token) Fault} → IsConfig (arities_of space) config
     → Pre (cut_space space config) files main (first_config (cut_space space config)) r → Pre space files main config r
 pre-cut {space} {files} {main} {config} listed pre = record {
   end = pre.end;
@@ -255,6 +258,26 @@ pre-cut {space} {files} {main} {config} listed pre = record {
   is = pre.is;
 }
 
+abbrev decides-with : Space → Line → Result Bool Fault → Macros → Type 0
+decides-with space line answer macros =
+    Decides (context_of space (λ name. None)) (record { macros = macros; run = []; output = []; depth = 0; file = []; once = [] }) line answer
+
+-- what the text says of the configuration that is left it says of this one, and the other way round
+module _ {space : Space} {config : List ℕ} (formed : IsConfig (arities_of space) config) where
+  pub says-cut : {r : Result Bool Cause} → SaysValid (cut_space space config) (first_config (cut_space space config)) r → SaysValid space config r
+  says-cut (absent none) = absent none
+  says-cut (unread comment) = unread (record { text = comment.text; place = comment.place; present = comment.present; refused = comment.refused })
+  says-cut (decided line answer is d) =
+      decided line answer (record { text = is.text; tokens = is.tokens; present = is.present; lexed = is.lexed; is = is.is })
+      (subst (decides-with space line answer) (macros-cut space config formed) d)
+
+  pub says-whole : {r : Result Bool Cause} → SaysValid space config r → SaysValid (cut_space space config) (first_config (cut_space space config)) r
+  says-whole (absent none) = absent none
+  says-whole (unread comment) = unread (record { text = comment.text; place = comment.place; present = comment.present; refused = comment.refused })
+  says-whole (decided line answer is d) =
+      decided line answer (record { text = is.text; tokens = is.tokens; present = is.present; lexed = is.lexed; is = is.is })
+      (subst (decides-with space line answer) (sym (macros-cut space config formed)) d)
+
 -- ---- it never has more branches than are allowed
 
 pub never-fills : (space : Space) → ((c : List ℕ) → IsConfig (arities_of space) c → c ≡ first_config space) → IsSound space → HasManyConfigs space → ⊥
@@ -262,7 +285,7 @@ never-fills space one sound has =
     let least = sound.branches_least in
     let many = has.many in
     let first = first_config space in
-    has.apart 0 1 first (omega arith) (omega arith) (one (get_or has.configs 0 first) (has.listed 0 first (omega arith)) ∙ sym (one (get_or has.configs 1 first) (has.listed 1 first (omega arith))))
+    has.apart 0 1 first (omega arith) (omega arith) (one (get_or has.configs 0 first) (has.formed 0 first (omega arith)) ∙ sym (one (get_or has.configs 1 first) (has.formed 1 first (omega arith))))
 
 replicate-first : (space : Space) (n : ℕ) → length space.variables ≡ n → replicate n 0 ≡ first_config space
 replicate-first space n long = by space.variables n long
@@ -277,8 +300,8 @@ pub zeros-are : (space : whole.Space) (n : ℕ) (ks : List ℕ) → n ≡ length
 zeros-are space n ks long is = is ∙ replicate-first (seen_space space) n (length-map space.variables.items seen_variable ∙ sym long)
 
 -- each variable has a first option
-pub only-listed : (space : Space) → HasOptions (arities_of space) → IsListed space (first_config space)
-only-listed space has = record {
+pub only-formed : (space : Space) → HasOptions (arities_of space) → IsConfig (arities_of space) (first_config space)
+only-formed space has = record {
   long = length-map space.variables (λ (v : Variable). 0) ∙ sym (length-map space.variables (λ (v : Variable). length v.options));
   each = λ i h. let none = zeros-at space.variables i in let some = has.each i h in omega arith;
 }

@@ -1,5 +1,5 @@
 -- Why there is no text of what is asked for.
-use Rattle.std.proofs.Common.{◌≡◌, ◌∙◌, ℕ, ◌+◌, true, List, Option, Some, None, Ok, Err, inr, refl, sym, ap}
+use Rattle.std.proofs.Common.{◌≡◌, ◌∙◌, ◌≤◌, ℕ, ◌+◌, arith, true, List, Option, Some, None, Ok, Err, inl, inr, refl, sym, ap}
 use Rattle.std.specs.Option.{unwrap_or}
 use Rattle.sc_args.specs.Words.{Asked, project, asked_of}
 use Rattle.sc_core.specs.declared.run_error.RunError.{RunError}
@@ -8,7 +8,7 @@ use Rattle.sc_core.specs.Ordinary.{Setting}
 use Rattle.sc_core.specs.Outcome.{FailsFor, FailsWith, FillsBranches, IsOn, Job, MayHold, Reading, RefusesSpace, WhereTold, absent, job_of, refused}
 use Rattle.sc_core.specs.RunError.{branches_line, line_of, space_line}
 use Rattle.sc_core.specs.Texts.{FailsInSpace, FailsToChoose, FillsIn, ReadsSpace, RefusesAnySpace, TellsRefusal, setting_of}
-use Rattle.sc_model.specs.Outside.{Files}
+use Rattle.sc_model.specs.Outside.{Files, Rose}
 use Rattle.sc_model.specs.Space.{Space}
 use Rattle.sc_space.specs.declared.fault.SpaceStop.{SpaceStop}
 use Rattle.sc_space.specs.declared.fault.SpaceStop.TheVariants as stop
@@ -86,7 +86,7 @@ choice-fails reading name main choices space is error.BadFile fails = fails
 choice-fails reading name main choices space is error.BadCount fails = fails
 choice-fails reading name main choices space is error.NoSpace fails = absurd fails
 choice-fails reading name main choices space is (error.BadSpace line) fails =
-    record { files = is.files; held = is.held; why = inr (record { space = space; fault = fails.0; has_space = is.has; read = fails.1.0; told = fails.1.1 }) }
+    record { files = is.files; held = is.held; why = inr (inl (record { space = space; fault = fails.0; has_space = is.has; read = fails.1.0; told = fails.1.1 })) }
 choice-fails reading name main choices space is (error.BranchesFull line) fails = absurd fails
 choice-fails reading name main choices space is error.ReadFault fails = absurd fails
 choice-fails reading name main choices space is error.OutOfMemory fails = tt
@@ -115,3 +115,8 @@ fails-with asked reading words is (error.BadSpace line) fails = record { asked =
 fails-with asked reading words is (error.BranchesFull line) fails = record { asked = asked; asked_is = is; fails = fails }
 fails-with asked reading words is error.ReadFault fails = record { asked = asked; asked_is = is; fails = fails }
 fails-with asked reading words is error.OutOfMemory fails = tt
+
+-- a count that rose in a part of a time rose in all of it
+pub rose-before : (before mid after : ℕ) → before ≤ mid → Rose mid after → Rose before after
+rose-before before mid after least (inl more) = inl (omega arith)
+rose-before before mid after least (inr full) = inr full

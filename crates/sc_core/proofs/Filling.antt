@@ -14,7 +14,7 @@ use Rattle.sc_expand.specs.Stops.{HasConfigs}
 use Rattle.sc_fork.specs.Parsers.{c11_parser}
 use Rattle.sc_model.specs.Outside.{Files}
 use Rattle.sc_model.specs.Sets.{IsConfig}
-use Rattle.sc_model.specs.Space.{IsListed, Space, arities_of}
+use Rattle.sc_model.specs.Space.{Space, arities_of}
 use Rattle.sc_prep.specs.Footprints.{StopsAmong}
 use Rattle.sc_prep.specs.Preprocesses.{Stops}
 use Rattle.sc_model.specs.declared.standard.Standard.TheVariants.{C11}
@@ -58,16 +58,16 @@ is-config (n ∷ ns) (k ∷ ks) is = by (nat_lt k n) refl is (λ more. is-config
 
 -- ---- more configurations than branches
 
-many-configs : (space : Space) → HasConfigs (arities_of space) (space.branches + 1) → HasManyConfigs space
-many-configs space has = let many = has.many in record { configs = has.configs; many = omega (arith, many); listed = has.listed; apart = has.apart }
+pub many-configs : (space : Space) → HasConfigs (arities_of space) (space.branches + 1) → HasManyConfigs space
+many-configs space has = let many = has.many in record { configs = has.configs; many = omega (arith, many); formed = has.listed; apart = has.apart }
 
-pub class-configs : (space : Space) (input : Input) → ((c : List ℕ) → input.live c ≡ true → IsListed space c) → HasMoreClasses input space.branches → HasManyConfigs space
+pub class-configs : (space : Space) (input : Input) → ((c : List ℕ) → input.live c ≡ true → IsConfig (arities_of space) c) → HasMoreClasses input space.branches → HasManyConfigs space
 class-configs space input listed has =
     let distinct = has.distinct in
     record {
       configs = has.configs;
       many = has.more;
-      listed = λ k d h. listed (get_or has.configs k d) (distinct.classes k d h).1.live.unrefused;
+      formed = λ k d h. listed (get_or has.configs k d) (distinct.classes k d h).1.live.unrefused;
       apart = λ i j d below within alike.
           let first = distinct.classes i d (omega (arith, below, within)) in
           distinct.different i j d below within first.0 first.1 (subst (λ c. IsClass input has.place c first.0) alike first.1);
@@ -80,7 +80,7 @@ pub any-parser : Parser
 any-parser = c11_parser C11 (record { states = []; action = λ state symbol. None; goto = λ state symbol. None; conflicts = [] })
 
 pub stops-before : (fills : Setting → Type 0) → ((s : Setting) → HasManyFootprints s → fills s) → (arities : List ℕ) (space : Space) (main : List ℕ) (holds : Option Files) (before after : ℕ) → arities ≡ arities_of space
-    → (stop : Stop) → Stops arities space.branches before after stop → ((outside : Files) → holds ≡ Some outside → StopsAmong (IsListed space) (Has space outside main) space.branches stop)
+    → (stop : Stop) → Stops arities space.branches before after stop → ((outside : Files) → holds ≡ Some outside → StopsAmong (IsConfig (arities_of space)) (Has space outside main) space.branches stop)
     → StopsIn fills holds before after space main stop
 stops-before fills of arities space main holds before after same (BranchesFull count) stops here = (
   stops.0,

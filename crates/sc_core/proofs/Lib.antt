@@ -3,6 +3,7 @@ pub mod Cuts
 pub mod Failing
 pub mod Filling
 pub mod LaidParts
+pub mod Listing
 pub mod MadeItems
 pub mod MadeSpaces
 pub mod ParsedFiles

@@ -1,5 +1,5 @@
 -- What the parsing of a preprocessed file comes to.
-use Rattle.std.proofs.Common.{◌≡◌, ◌∙◌, ◌++◌, ℕ, suc, ◌<◌, ◌≤◌, Bool, true, false, List, [], ◌∷◌, All, length, map, get_or, slice_get, Option, Some, None, Result, Ok, Err, append-nil, arith, inr, refl, sym, ap, subst}
+use Rattle.std.proofs.Common.{◌≡◌, ◌∙◌, ◌++◌, ℕ, suc, ◌<◌, ◌≤◌, Bool, true, false, List, [], ◌∷◌, All, length, map, get_or, slice_get, Option, Some, None, Result, Ok, Err, append-nil, arith, inl, inr, ◌⊎◌, refl, sym, ap, subst}
 use Rattle.std.proofs.lemmas.Bool.{and_parts, false≢true}
 use Rattle.std.proofs.lemmas.List.{length-map}
 use Rattle.std.proofs.lemmas.List.Elements.{All-append, All-contains, All-weaker}
@@ -8,6 +8,7 @@ use Rattle.std.proofs.lemmas.Simd.{map-map}
 use Rattle.std.specs.Prelude.{◌&&◌, if◌then◌else◌}
 use Rattle.std.specs.Result.{is_ok}
 use Rattle.c11_directives.specs.Pre.{Pre}
+use Rattle.c11_directives.specs.Listed.{IsListed}
 use Rattle.c11_parsing.specs.Classes.{Input, project}
 use Rattle.c11_parsing.specs.LR.{LR}
 use Rattle.c11_parsing.specs.Parser.{Parser}
@@ -39,7 +40,7 @@ use Rattle.sc_model.proofs.SetLemmas.{IsConfig-Keeps}
 use Rattle.sc_model.specs.Fault.{Fault}
 use Rattle.sc_model.specs.Outside.{Files}
 use Rattle.sc_model.specs.Sets.{Sets, IsConfig, Keeps}
-use Rattle.sc_model.specs.Space.{Space, IsListed, arities_of}
+use Rattle.sc_model.specs.Space.{Space, arities_of}
 use Rattle.sc_model.specs.Token as plain
 use Rattle.sc_parse.specs.declared.parsed.Parsed.{Parsed}
 use Rattle.sc_parse.specs.Parses.{IsInputOf, IsParse, OwnsParsed, StopsFor}
@@ -134,15 +135,16 @@ module _ (s : Sets) (names files : List (List ℕ)) (p : Prepared) (tables : cod
   listed-live : (c : List ℕ) → IsConfig s.arities c → listed_input.live c ≡ s.has p.live.0 c
   listed-live c listed = ap (λ b. b && s.has p.live.0 c) (config-is s.arities c listed)
 
-  live-listed : (space : Space) → s.arities ≡ arities_of space → (c : List ℕ) → listed_input.live c ≡ true → IsListed space c
-  live-listed space arities c live = subst (λ ns. IsConfig ns c) arities (is-config s.arities c (and_parts (is_config s.arities c) (s.has p.live.0 c) live).0)
+  live-formed : (space : Space) → s.arities ≡ arities_of space → (c : List ℕ) → listed_input.live c ≡ true → IsConfig (arities_of space) c
+  live-formed space arities c live = subst (λ ns. IsConfig ns c) arities (is-config s.arities c (and_parts (is_config s.arities c) (s.has p.live.0 c) live).0)
 
   pub is-listed-input : (lines : List Line) → IsInputOf (tables_with s lines names files) p.list tables standard p.end p.live listed_input
   is-listed-input = input-under listed_input.live listed-live
 
   -- what is parsed where preprocessing accepts the file, by what it gives there
   module _ (space : Space) (main : List ℕ) (outside : Files) (arities : s.arities ≡ arities_of space)
-      (ordinary : (config : List ℕ) → IsConfig s.arities config → IsOrdinary s names files p (Pre space outside main config) config)
+      (ordinary : (config : List ℕ) → IsListed space config → IsOrdinary s names files p (Pre space outside main config) config)
+      (listed_of : (config : List ℕ) → IsConfig s.arities config → s.has p.live.0 config ≡ true → IsListed space config)
       (ends : (bytes : List ℕ) → outside main ≡ Some bytes → (config : List ℕ) → IsConfig s.arities config → s.has p.live.0 config ≡ true → seen_place files p.end ≡ end_of_file main bytes) where
     abbrev setting : Setting
     setting = setting_of space main (c11-parser standard are) outside
@@ -158,8 +160,8 @@ module _ (s : Sets) (names files : List (List ℕ)) (p : Prepared) (tables : cod
 
     prepared-at : (config : List ℕ) → IsListed space config → IsPreparedAt setting listed_input config
     prepared-at config listed =
-        let here = subst (λ ns. IsConfig ns config) (sym arities) listed in
-        let o = ordinary config here in
+        let here = subst (λ ns. IsConfig ns config) (sym arities) listed.formed in
+        let o = ordinary config listed in
         record {
           answer = o.answer;
           preprocessed = o.preprocessed;
@@ -168,12 +170,17 @@ module _ (s : Sets) (names files : List (List ℕ)) (p : Prepared) (tables : cod
           ends = λ ts bytes is held. ends bytes held config here (o.live ∙ ap is_accepted is);
         }
 
+    live-listed : (c : List ℕ) → listed_input.live c ≡ true → IsListed space c
+    live-listed c live =
+        let parts = and_parts (is_config s.arities c) (s.has p.live.0 c) live in
+        listed_of c (is-config s.arities c parts.0) parts.1
+
     pub file-input : IsFileInput setting listed_input
     file-input = record {
       parser = refl;
       arities = arities;
       each = prepared-at;
-      listed = live-listed space arities;
+      listed = live-listed;
     }
 
   -- why there is no tree of a file that was preprocessed
@@ -183,7 +190,7 @@ module _ (s : Sets) (names files : List (List ℕ)) (p : Prepared) (tables : cod
   stops-in space same main holds before after arities is (BranchesFull count) stops = (
     stops.0,
     record {
-      configs = class-configs space listed_input (live-listed space arities) stops.1;
+      configs = class-configs space listed_input (live-formed space arities) stops.1;
       parser = c11-parser standard are;
       why = λ files told. inr (record { c11 = subst (λ other. IsC11Parser other (c11-parser standard are)) same (c11-is standard are); input = listed_input; is_input = is files told; more = stops.1 });
     },
@@ -224,33 +231,42 @@ module _ (s new : Sets) (keeps : Keeps s new) (names files : List (List ℕ)) (p
   faults-before : (c : List ℕ) → IsConfig s.arities c → s.has p.live.0 c ≡ false → faults_at new all_faults c ≡ faults_at s p.faults.items c
   faults-before c listed live = faults-after c listed ∙ (ap (λ faults. faults_at s p.faults.items c ++ faults) (parse.others c listed live) ∙ append-nil (faults_at s p.faults.items c))
 
-  module _ (live : (c : List ℕ) → IsConfig s.arities c → s.has p.live.0 c ≡ has_none s p.faults.items c) where
-    none-before : (c : List ℕ) → IsConfig s.arities c → s.has p.live.0 c ≡ true → faults_at s p.faults.items c ≡ []
+  module _ (is_listed : List ℕ → Type 0) (formed : (c : List ℕ) → is_listed c → IsConfig s.arities c)
+      (live : (c : List ℕ) → is_listed c → s.has p.live.0 c ≡ has_none s p.faults.items c)
+      (listed_of : (c : List ℕ) → IsConfig s.arities c → s.has p.live.0 c ≡ true → is_listed c) where
+    none-before : (c : List ℕ) → is_listed c → s.has p.live.0 c ≡ true → faults_at s p.faults.items c ≡ []
     none-before c listed is = empty-is (faults_at s p.faults.items c) (sym (live c listed) ∙ is)
 
-    answered-by : (c : List ℕ) → IsConfig s.arities c → (b : Bool) → s.has p.live.0 c ≡ b
+    answered-by : (c : List ℕ) → is_listed c → (b : Bool) → s.has p.live.0 c ≡ b
         → (answer : Result Tree Fault) × Stands (tables_with new lines names files) result.root all_faults c answer
-    answered-by c listed true is = let answer = answer-at c listed is in (answer.0, stands-live c listed is (none-before c listed is) answer.0 answer.1)
+    answered-by c listed true is = let answer = answer-at c (formed c listed) is in (answer.0, stands-live c (formed c listed) is (none-before c listed is) answer.0 answer.1)
     answered-by c listed false is =
-        let one = one-fault (faults_at s p.faults.items c) (sym (live c listed) ∙ is) (shown.apart.few c listed) in
-        (Err (seen_fault files one.0), ap (map (seen_fault files)) (faults-before c listed is ∙ one.1))
+        let one = one-fault (faults_at s p.faults.items c) (sym (live c listed) ∙ is) (shown.apart.few c (formed c listed)) in
+        (Err (seen_fault files one.0), ap (map (seen_fault files)) (faults-before c (formed c listed) is ∙ one.1))
 
     -- the root stands for the tree of a configuration
     accepted-by : (id : TreeId) → result.root ≡ Some id
-        → (c : List ℕ) × (IsConfig new.arities c × ((tree : Tree) × Stands (tables_with new lines names files) result.root all_faults c (Ok tree)))
+        → (c : List ℕ) × (is_listed c × ((tree : Tree) × Stands (tables_with new lines names files) result.root all_faults c (Ok tree)))
     accepted-by id is =
         let some = parse.some id is in
         let it = some.1.1 in
-        (some.0, (IsConfig-Keeps keeps it.is_config, (some.1.0, stands-live some.0 it.is_config it.live (none-before some.0 it.is_config it.live) (Ok some.1.0) it.answer)))
+        let listed = listed_of some.0 it.is_config it.live in
+        (some.0, (listed, (some.1.0, stands-live some.0 it.is_config it.live (none-before some.0 listed it.live) (Ok some.1.0) it.answer)))
 
-    pub parsed-answers : HasAnswers (tables_with new lines names files) result.root all_faults
-    parsed-answers = record { each = λ c listed. answered-by c (here c listed) (s.has p.live.0 c) refl; some = accepted-by }
+    pub parsed-answers : HasAnswers is_listed (tables_with new lines names files) result.root all_faults
+    parsed-answers = record { each = λ c listed. answered-by c listed (s.has p.live.0 c) refl; some = accepted-by }
 
     pub parsed-apart : AreApart new all_faults
-    parsed-apart = record { few = λ c listed. let is = parsed-answers.each c listed in short-stands (tables_with new lines names files) result.root all_faults c is.0 is.1 }
+    parsed-apart = record { few = λ c formed_now. few c (here c formed_now) (s.has p.live.0 c) refl }
+      where
+        few : (c : List ℕ) → IsConfig s.arities c → (b : Bool) → s.has p.live.0 c ≡ b → length (faults_at new all_faults c) ≤ 1
+        few c config true is =
+            let answer = parsed-answers.each c (listed_of c config is) in
+            short-stands (tables_with new lines names files) result.root all_faults c answer.0 answer.1
+        few c config false is = subst (λ faults. length faults ≤ 1) (sym (faults-before c config is)) (shown.apart.few c config)
 
   module _ (space : Space) (main : List ℕ) (outside : Files) (arities : s.arities ≡ arities_of space)
-      (ordinary : (config : List ℕ) → IsConfig s.arities config → IsOrdinary s names files p (Pre space outside main config) config)
+      (ordinary : (config : List ℕ) → IsListed space config → IsOrdinary s names files p (Pre space outside main config) config)
       (ends : (bytes : List ℕ) → outside main ≡ Some bytes → (config : List ℕ) → IsConfig s.arities config → s.has p.live.0 config ≡ true → seen_place files p.end ≡ end_of_file main bytes) where
     abbrev parsed_setting : Setting
     parsed_setting = setting_of space main (c11-parser standard are) outside
@@ -277,9 +293,17 @@ module _ (s new : Sets) (keeps : Keeps s new) (names files : List (List ℕ)) (p
 
     pub translated-at : (config : List ℕ) → IsListed space config → There config
     translated-at config listed =
-        let now = subst (λ ns. IsConfig ns config) (sym arities) listed in
-        let o = ordinary config now in
+        let now = subst (λ ns. IsConfig ns config) (sym arities) listed.formed in
+        let o = ordinary config listed in
         translated-by config now o.answer o.preprocessed o.stands o.live
+
+    -- each other one has no fault, as before
+    pub others-after : ((config : List ℕ) → IsConfig s.arities config → IsListed space config ⊎ ((faults_at s p.faults.items config ≡ []) × (s.has p.live.0 config ≡ false)))
+        → (config : List ℕ) → IsConfig new.arities config → IsListed space config ⊎ (faults_at new all_faults config ≡ [])
+    others-after others config formed = elim (others config (here config formed)) [
+      | inl listed ↦ inl listed
+      | inr out ↦ inr (faults-before config (here config formed) out.1 ∙ out.0)
+    ]
 
 -- ---- what can be shown
 

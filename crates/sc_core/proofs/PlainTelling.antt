@@ -3,6 +3,7 @@ use Rattle.std.proofs.Common.{◌≡◌, ◌∙◌, ℕ, Bool, true, false, List
 use Rattle.std.proofs.lemmas.List.Elements.{All-head, All-tail}
 use Rattle.std.specs.Option.{option_to_list}
 use Rattle.std.specs.Prelude.{if◌then◌else◌}
+use Rattle.c11_directives.specs.Listed.{IsListed}
 use Rattle.c11_parsing.specs.Trees.{Tree}
 use Rattle.sc_base.specs.declared.fault.Fault as base
 use Rattle.sc_base.specs.declared.id.TreeId.{TreeId}
@@ -19,7 +20,7 @@ use Rattle.sc_guarded.specs.Items.{faults_at, seen_fault}
 use Rattle.sc_model.specs.Fault.{Fault}
 use Rattle.sc_model.specs.Outside.{Files}
 use Rattle.sc_model.specs.Sets.{Sets, IsConfig, IsNever, Keeps}
-use Rattle.sc_model.specs.Space.{Space, IsListed, arities_of}
+use Rattle.sc_model.specs.Space.{Space, arities_of}
 use Rattle.sc_project.proofs.Laying.{Stand-whole}
 use Rattle.sc_project.specs.Layout.{LaysOut}
 use Rattle.sc_show.specs.PlainText.{IsPlainAnswer, fault_alone, tree_alone}
@@ -32,7 +33,7 @@ use Rattle.sc_tree.specs.Reads.{Reads}
 
 -- ---- the faults of one configuration
 
-module _ {space : Space} (c : List ℕ) (one : (d : List ℕ) → IsListed space d → d ≡ c) where
+module _ {space : Space} (c : List ℕ) (one : (d : List ℕ) → IsConfig (arities_of space) d → d ≡ c) where
   had-there : (pair : Condition × Fault) → IsShown space pair → pair.0 c ≡ true
   had-there pair shown = by (pair.0 c) refl
     where
@@ -70,7 +71,7 @@ rootless no_root = refl
 
 module _ {s new : Sets} (keeps : Keeps s new) (names files : List (List ℕ)) (space : Space) (old p : ParsedFile) (text : Output)
     (shows : ShowsTree space new names files p.trees p.root p.faults.items text.lines.items) (shown : CanShowTree s names files p) (arities : s.arities ≡ arities_of space)
-    (c : List ℕ) (here : IsListed space c) (one : (d : List ℕ) → IsListed space d → d ≡ c) (plain : IsPlain (seen_by s names files old) c old p) where
+    (c : List ℕ) (here : IsListed space c) (one : (d : List ℕ) → IsConfig (arities_of space) d → d ≡ c) (plain : IsPlain (seen_by s names files old) c old p) where
   faults-told : project shows.answer.faults c ≡ map (seen_fault files) (faults_at s p.faults.items c)
   faults-told = shown-faults keeps names files space p text shows shown arities c here
 
@@ -95,7 +96,7 @@ module _ {s new : Sets} (keeps : Keeps s new) (names files : List (List ℕ)) (s
       let only = only-fault c one shows.answer.faults (faults_shown shows.text_of) fault (faults-told ∙ stands) in
       fault_alone only.0 fault (nothing-shown parts) (rootless (subst (λ (o : Option TreeId). IsRootOf shows.ids o shows.answer.body.root) is shows.root_is)) only.1.0 only.1.1
 
-  module _ (answers : HasAnswers (seen_by s names files old) old.root old.faults.items) where
+  module _ (answers : HasAnswers (IsListed space) (seen_by s names files old) old.root old.faults.items) where
     abbrev Old : Result Tree Fault → Type 0
     Old result = Stands (seen_by s names files old) old.root old.faults.items c result
 
@@ -103,7 +104,7 @@ module _ {s new : Sets} (keeps : Keeps s new) (names files : List (List ℕ)) (s
     unrefused : (id : TreeId) (fault : Fault) → old.root ≡ Some id → Old (Err fault) → ⊥
     unrefused id fault is stands =
         let some = answers.some id is in
-        let at = one some.0 (subst (λ ns. IsConfig ns some.0) arities some.1.0) in
+        let at = one some.0 some.1.0.formed in
         let none : faults_at s old.faults.items c ≡ [] = subst (λ (d : List ℕ). faults_at s old.faults.items d ≡ []) at some.1.1.1.0 in
         let bad : [] ≡ fault ∷ [] = ap (map (seen_fault files)) (sym none) ∙ stands in
         absurd (cc)
@@ -130,15 +131,15 @@ module _ {s new : Sets} (keeps : Keeps s new) (names files : List (List ℕ)) (s
 
 module _ {s new : Sets} (keeps : Keeps s new) (names files : List (List ℕ)) (space : Space) (old p : ParsedFile) (text : Output)
     (shows : ShowsTree space new names files p.trees p.root p.faults.items text.lines.items) (shown : CanShowTree s names files p) (arities : s.arities ≡ arities_of space)
-    (here : IsListed space (first_config space)) (one : (d : List ℕ) → IsListed space d → d ≡ first_config space) (plain : IsPlain (seen_by s names files old) (first_config space) old p)
-    (answers : HasAnswers (seen_by s names files old) old.root old.faults.items)
+    (here : IsListed space (first_config space)) (one : (d : List ℕ) → IsConfig (arities_of space) d → d ≡ first_config space) (plain : IsPlain (seen_by s names files old) (first_config space) old p)
+    (answers : HasAnswers (IsListed space) (seen_by s names files old) old.root old.faults.items)
     (none : text.is_refused ≡ false → All (λ (f : base.Fault). IsNever s f.cond.0) p.faults.items)
     (some : text.is_refused ≡ true → All (λ (f : base.Fault). IsNever s f.cond.0) p.faults.items → ⊥) where
   pub tells-plain : (holds : Option Files) (main : List ℕ) → (most : ℕ) → AreTranslated holds space main (seen_by s names files old) old.root old.faults.items most → TellsPlain holds space main text
   tells-plain holds main most translated =
       let c = first_config space in
-      let at = answers.each c (subst (λ ns. IsConfig ns c) (sym arities) here) in
-      let of_plain = plain-translated c plain holds space main most one translated in
+      let at = answers.each c here in
+      let of_plain = plain-translated c plain holds space main most (λ d listed. one d listed.formed) translated in
       let told = answer-told keeps names files space p text shows shown arities none some holds main most of_plain in
       record {
         tells = tells-tree keeps names files space p text shows shown arities none some holds main most of_plain;

@@ -1,9 +1,10 @@
 -- The tree of the one configuration of a space.
-use Rattle.std.proofs.Common.{◌≡◌, ◌∙◌, ℕ, ◌+◌, ◌<◌, true, false, List, [], ◌∷◌, All, get_or, length, map, slice_get, Option, Some, None, Result, Ok, Err, arith, refl, sym, ap, subst}
+use Rattle.std.proofs.Common.{◌≡◌, ◌∙◌, ℕ, ◌+◌, ◌<◌, true, false, List, [], ◌∷◌, All, get_or, length, map, slice_get, Option, Some, None, Result, Ok, Err, arith, refl, sym, ap, subst, inl, inr}
 use Rattle.std.proofs.lemmas.Bool.{both_ways}
 use Rattle.std.proofs.lemmas.List.Elements.{All-append, All-cons, All-nil}
 use Rattle.std.proofs.lemmas.Option.{slice_get_within, slice_get-get_or}
 use Rattle.std.specs.Prelude.{IfSome}
+use Rattle.c11_directives.specs.Listed.{IsListed}
 use Rattle.c11_parsing.specs.Trees.{Tree}
 use Rattle.sc_base.specs.declared.fault.Fault as base
 use Rattle.sc_base.specs.declared.id.Cond.{Cond}
@@ -18,7 +19,7 @@ use Rattle.sc_guarded.specs.Printable.{AreApart, IsShowableFault}
 use Rattle.sc_model.specs.Fault.{Fault}
 use Rattle.sc_model.specs.Outside.{Files}
 use Rattle.sc_model.specs.Sets.{Sets, IsCond, IsConfig}
-use Rattle.sc_model.specs.Space.{Space, IsListed}
+use Rattle.sc_model.specs.Space.{Space}
 use Rattle.sc_project.specs.Layout.{AllLaid, HasTree, LaysOut, leaf_laid, node_laid, choice_laid, none_laid, more_laid}
 use Rattle.sc_show.specs.TreeShows.{AreShowableLeaves, IsShowableLeaf}
 use Rattle.sc_tree.specs.Lines.{Line, leaf, node, choice, branches_of}
@@ -98,7 +99,7 @@ module _ {s : Sets} {names files : List (List ℕ)} (old : ParsedFile) (shown : 
   }
 
   -- the root stands for a tree at the one configuration
-  pub root-has : (c : List ℕ) → ((d : List ℕ) → IsConfig s.arities d → d ≡ c) → HasAnswers (seen_by s names files old) old.root old.faults.items → (id : TreeId) → old.root ≡ Some id → HasTree s old.trees c id.0
+  pub root-has : {is_listed : List ℕ → Type 0} (c : List ℕ) → ((d : List ℕ) → is_listed d → d ≡ c) → HasAnswers is_listed (seen_by s names files old) old.root old.faults.items → (id : TreeId) → old.root ≡ Some id → HasTree s old.trees c id.0
   root-has c one answers id is =
       let some = answers.some id is in
       let tree = some.1.1.0 in
@@ -155,6 +156,10 @@ module _ {s : Sets} {names files : List (List ℕ)} {old p : ParsedFile} (c : Li
     each = λ d listed.
         let at = are.each d listed in
         record { ordinary = at.ordinary; translated = at.translated; stands = stands-plain d (one d listed) at.ordinary at.stands };
+    others = λ d formed. elim (are.others d formed) [
+      | inl listed ↦ inl listed
+      | inr none ↦ inr (subst (λ (fs : List base.Fault). faults_at s fs d ≡ []) (sym plain.faults) none)
+    ];
     classes = are.classes;
     few = are.few;
   }

@@ -6,13 +6,14 @@ use Rattle.std.proofs.lemmas.Bool.{ltb-true, true≢false}
 use Rattle.std.proofs.lemmas.Bool.Decides.{leb_tells}
 use Rattle.std.proofs.lemmas.List.{length-map, nil_from_length}
 use Rattle.std.proofs.lemmas.Option.{same_Some}
+use Rattle.c11_directives.specs.Listed.{IsListed, SaysValid, absent}
 use Rattle.c11_parsing.specs.Trees.{Tree}
 use Rattle.lr_tables.proofs.Members.{cons_cases, cons_head, no_member}
 use Rattle.sc_base.specs.declared.fault.Fault as base
 use Rattle.sc_base.specs.declared.id.TreeId.{TreeId}
 use Rattle.sc_core.proofs.Translating.{translates-unique}
 use Rattle.sc_core.specs.declared.tree_texts.ParsedFile.{ParsedFile}
-use Rattle.sc_core.proofs.Cuts.{only-listed, zeros-are}
+use Rattle.sc_core.proofs.Cuts.{only-formed, zeros-are}
 use Rattle.sc_core.proofs.MadeSpaces.{made-sound}
 use Rattle.sc_core.specs.Cut.{first_config, last_config}
 use Rattle.sc_core.specs.declared.output.Output.{Output}
@@ -23,12 +24,13 @@ use Rattle.sc_core.specs.Texts.{AreTranslated, HasAnswers, IsTranslated, Stands,
 use Rattle.sc_fork.specs.Outcomes.{RootReads, root_reads}
 use Rattle.sc_guarded.specs.Items.{faults_at, seen_fault}
 use Rattle.sc_model.specs.Fault.{Fault}
-use Rattle.sc_model.specs.Sets.{IsConfig, Sets}
+use Rattle.sc_model.specs.Sets.{IsAlways, IsCond, IsConfig, IsNever, Sets}
 use Rattle.sc_model.specs.Outside.{Files}
-use Rattle.sc_model.specs.Space.{IsListed, Space, arities_of}
+use Rattle.sc_model.specs.Space.{Space, arities_of}
 use Rattle.sc_project.specs.declared.size.TreeSize.{TreeSize}
 use Rattle.sc_project.specs.Layout.{HasTree}
 use Rattle.sc_project.specs.Size.{size_of}
+use Rattle.sc_prep.specs.Valid.{IsValidSet}
 use Rattle.sc_show.specs.declared.summary.Summary.{Summary}
 use Rattle.sc_show.specs.FaultCount.{AreFaultsOf, HasFaultAt}
 use Rattle.sc_show.specs.Summary.{summary_pieces}
@@ -83,7 +85,7 @@ module _ (s : Sets) (names files : List (List ℕ)) (p : ParsedFile) (c : List �
       let found = tree-read o root is nothing stands in
       ap (λ (z : TreeSize). Some z) (sized found.0 found.1.1) ∙ ap size_in (sym found.1.0)
 
-  pub has-tree : HasAnswers (seen_by s names files p) p.root p.faults.items → IsConfig s.arities c → (root : TreeId) → p.root ≡ Some root → faults_at s p.faults.items c ≡ [] → HasTree s p.trees c root.0
+  pub has-tree : HasAnswers (IsConfig s.arities) (seen_by s names files p) p.root p.faults.items → IsConfig s.arities c → (root : TreeId) → p.root ≡ Some root → faults_at s p.faults.items c ≡ [] → HasTree s p.trees c root.0
   has-tree answered config root is nothing =
       let at = answered.each c config in
       let found = tree-read at.0 root is nothing at.1 in
@@ -153,11 +155,30 @@ last-option (suc (suc (suc (suc (suc (suc zero)))))) below = omega arith
 last-option (suc (suc (suc (suc (suc (suc (suc zero))))))) below = omega arith
 last-option (suc (suc (suc (suc (suc (suc (suc (suc v)))))))) below = absurd (omega (arith, below))
 
-pub last-listed : IsListed made_space (last_config made_space)
-last-listed = record { long = refl; each = last-option }
+last-formed : IsConfig (arities_of made_space) (last_config made_space)
+last-formed = record { long = refl; each = last-option }
 
-pub first-listed : IsListed made_space (first_config made_space)
-first-listed = only-listed made_space made-sound.has_options
+first-formed : IsConfig (arities_of made_space) (first_config made_space)
+first-formed = only-formed made_space made-sound.has_options
+
+-- all configurations of the space are listed
+pub made-listed : (config : List ℕ) → IsConfig (arities_of made_space) config → IsListed made_space config
+made-listed config formed = record { formed = formed; valid = absent refl }
+
+-- and a condition that has all has them
+module _ {s : Sets} {space : Space} (is : space ≡ made_space) (arities : s.arities ≡ arities_of space) (live : ℕ) (own : IsCond s live) (always : IsAlways s live) where
+  pub made-valid : IsValidSet s space live
+  made-valid = record {
+    own = own;
+    says = λ config formed. subst (λ b. SaysValid space config (Ok b)) (sym (always.all config formed)) (absent (ap (λ (of : Space). of.valid) is));
+  }
+
+  pub made-some : IsNever s live → ⊥
+  made-some never =
+      let first = first_config made_space in
+      let formed : IsConfig s.arities first = subst (λ ns. IsConfig ns first) (sym (arities ∙ ap arities_of is)) first-formed in
+      let bad : true ≡ false = sym (always.all first formed) ∙ never.none first formed in
+      true≢false bad
 
 -- ---- the configurations that are made of equal numbers
 
@@ -172,10 +193,10 @@ module _ (space : whole.Space) (n : ℕ) (ks : List ℕ) (s : Sets) (long : n �
   last-is ones = ones ∙ ap (λ m. replicate m 1) eight
 
   pub first-chosen : ks ≡ replicate n 0 → IsConfig s.arities ks
-  first-chosen zeros = subst (λ ns. IsConfig ns ks) (sym arities) (subst (IsConfig (arities_of made_space)) (sym (first-is zeros)) first-listed)
+  first-chosen zeros = subst (λ ns. IsConfig ns ks) (sym arities) (subst (IsConfig (arities_of made_space)) (sym (first-is zeros)) first-formed)
 
   pub last-chosen : ks ≡ replicate n 1 → IsConfig s.arities ks
-  last-chosen ones = subst (λ ns. IsConfig ns ks) (sym arities) (subst (IsConfig (arities_of made_space)) (sym (last-is ones)) last-listed)
+  last-chosen ones = subst (λ ns. IsConfig ns ks) (sym arities) (subst (IsConfig (arities_of made_space)) (sym (last-is ones)) last-formed)
 
 -- ---- the text
 
@@ -185,10 +206,10 @@ module _ (holds : Option Files) (items : ℕ) (s : Sets) (names files : List (Li
   setting = setting_of made_space made_name are.parser are.files
 
   here : (config : List ℕ) → IsListed made_space config → IsConfig s.arities config
-  here config listed = subst (λ ns. IsConfig ns config) (sym arities) listed
+  here config listed = subst (λ ns. IsConfig ns config) (sym arities) listed.formed
 
   there : (config : List ℕ) → IsConfig s.arities config → IsListed made_space config
-  there config listed = subst (λ ns. IsConfig ns config) arities listed
+  there config formed = made-listed config (subst (λ ns. IsConfig ns config) arities formed)
 
   size-told : (config : List ℕ) (size : Option TreeSize) → IsListed made_space config
       → ((o : Result Tree Fault) → Stands (seen_by s names files p) p.root p.faults.items config o → size ≡ size_in o) → HasSizeAt setting config size
@@ -207,8 +228,8 @@ module _ (holds : Option Files) (items : ℕ) (s : Sets) (names files : List (Li
       summary = summary;
       written = written;
       items_are = items_are;
-      first = size-told (first_config made_space) summary.first first-listed first;
-      last = size-told (last_config made_space) summary.last last-listed last;
+      first = size-told (first_config made_space) summary.first (made-listed (first_config made_space) first-formed) first;
+      last = size-told (last_config made_space) summary.last (made-listed (last_config made_space) last-formed) last;
       faults = subst (HasFaults setting) many (has-faults setting s names files p different of here there are.each);
       classes = subst (HasClasses setting) (sym classes) are.classes;
       verdict = verdict-is setting s names files p different of here there are.each text.is_refused
@@ -219,3 +240,13 @@ module _ (holds : Option Files) (items : ℕ) (s : Sets) (names files : List (Li
     where
       by : (n : ℕ) → nat_lt 0 n ≡ false → length different ≡ n → length different ≡ 0
       by n is long = elim (leb_tells (suc 0) n) [ inl more ↦ absurd (true≢false (sym more.0 ∙ is)) | inr none ↦ omega (arith, none.1, long) ]
+
+-- what the listed configurations have all have
+pub made-answers : (s : Sets) (names files : List (List ℕ)) (p : ParsedFile) → s.arities ≡ arities_of made_space → HasAnswers (IsListed made_space) (seen_by s names files p) p.root p.faults.items
+    → HasAnswers (IsConfig s.arities) (seen_by s names files p) p.root p.faults.items
+made-answers s names files p arities answered = record {
+  each = λ config formed. answered.each config (made-listed config (subst (λ ns. IsConfig ns config) arities formed));
+  some = λ id is.
+      let found = answered.some id is in
+      (found.0, (subst (λ ns. IsConfig ns found.0) (sym arities) found.1.0.formed, found.1.1));
+}

@@ -1,5 +1,5 @@
 -- That a text tells what ordinary preprocessing gives.
-use Rattle.std.proofs.Common.{◌≡◌, ℕ, ◌==◌, not, Bool, true, false, List, [], ◌∷◌, map, length, Result, Ok, Err, arith, refl, sym, ap, ◌∙◌, subst}
+use Rattle.std.proofs.Common.{◌≡◌, ◌⊎◌, inl, inr, ℕ, ◌==◌, not, Bool, true, false, List, [], ◌∷◌, map, length, Result, Ok, Err, arith, refl, sym, ap, ◌∙◌, subst}
 use Rattle.std.proofs.lemmas.Bool.{and_parts}
 use Rattle.std.proofs.lemmas.Bool.Decides.{nat_tests}
 use Rattle.std.proofs.lemmas.Simd.{map-map}
@@ -26,9 +26,10 @@ use Rattle.sc_text.specs.Answer.{Answer, At, accepted, project, refused, token_l
 use Rattle.sc_text.specs.Layout.{IsTextOf}
 use Rattle.sc_model.specs.Outside.{Files}
 use Rattle.sc_model.specs.Fault.{Fault}
+use Rattle.c11_directives.specs.Listed.{HasListed, IsListed}
 use Rattle.c11_directives.specs.Pre.{Pre}
 use Rattle.sc_model.specs.Sets.{Sets, IsConfig, IsNever, Keeps}
-use Rattle.sc_model.specs.Space.{Space, IsListed, arities_of}
+use Rattle.sc_model.specs.Space.{Space, arities_of}
 use Rattle.sc_model.specs.Bytes.{has_no_newline}
 use Rattle.sc_model.specs.Token.{Token, shown}
 use Rattle.sc_show.proofs.ShownItems.{project-shown_items}
@@ -57,16 +58,17 @@ tells-by false Never Accepted none some accepts never = accepts (none refl)
 
 module _ {s new : Sets} (keeps : Keeps s new) (names files : List (List ℕ)) (space : Space) (outside : Files) (main : List ℕ) (p : Prepared) (text : Output)
     (shows : Shows space new names files p.list p.faults.items text.lines.items) (owns : OwnsList s p) (arities : s.arities ≡ arities_of space)
-    (ordinary : (config : List ℕ) → IsListed space config → IsOrdinary s names files p (Pre space outside main config) config)
+    (lists : HasListed space) (ordinary : (config : List ℕ) → IsListed space config → IsOrdinary s names files p (Pre space outside main config) config)
+    (others : (config : List ℕ) → IsConfig s.arities config → IsListed space config ⊎ (faults_at s p.faults.items config ≡ []))
     (none : text.is_refused ≡ false → All (λ (f : base.Fault). IsNever s f.cond.0) p.faults.items)
     (some : text.is_refused ≡ true → All (λ (f : base.Fault). IsNever s f.cond.0) p.faults.items → ⊥) where
-  here : (config : List ℕ) → IsListed space config → IsConfig s.arities config
-  here config listed = subst (λ ns. IsConfig ns config) (sym arities) listed
+  here : (config : List ℕ) → IsConfig (arities_of space) config → IsConfig s.arities config
+  here config formed = subst (λ ns. IsConfig ns config) (sym arities) formed
 
-  there : (config : List ℕ) → IsConfig s.arities config → IsListed space config
-  there config listed = subst (λ ns. IsConfig ns config) arities listed
+  there : (config : List ℕ) → IsConfig s.arities config → IsConfig (arities_of space) config
+  there config formed = subst (λ ns. IsConfig ns config) arities formed
 
-  shown-faults : (config : List ℕ) → IsListed space config → project shows.answer.faults config ≡ map (seen_fault files) (faults_at s p.faults.items config)
+  shown-faults : (config : List ℕ) → IsConfig (arities_of space) config → project shows.answer.faults config ≡ map (seen_fault files) (faults_at s p.faults.items config)
   shown-faults config listed =
       shows.faults_are config (IsConfig-Keeps keeps (here config listed)) ∙ ap (map (seen_fault files)) (faults_at-Keeps p.faults.items config keeps owns.faults (here config listed))
 
@@ -89,14 +91,14 @@ module _ {s new : Sets} (keeps : Keeps s new) (names files : List (List ℕ)) (s
     ordinary-at : (config : List ℕ) → IsListed space config → IsRightAt (Preprocesses setting config) (λ o. At shows.answer config (shown_answer o))
     ordinary-at config listed =
         let o = ordinary config listed in
-        let now = here config listed in
+        let now = here config listed.formed in
         record {
           ordinary = o.answer;
           given = o.preprocessed;
           said = told shows.answer config o.answer (map (seen names files) (items_at s p.list config)) (map (seen_fault files) (faults_at s p.faults.items config))
-              (sym (AreAlike-project config listed shows.tokens) ∙ project-shown_items new names files p.list config
+              (sym (AreAlike-project config listed.formed shows.tokens) ∙ project-shown_items new names files p.list config
               ∙ (ap (map (λ t. shown (seen names files t))) (items_at-Keeps p.list config keeps owns.list now) ∙ sym (map-map shown (seen names files) (items_at s p.list config))))
-              (shown-faults config listed)
+              (shown-faults config listed.formed)
               o.stands;
         }
 
@@ -104,21 +106,28 @@ module _ {s new : Sets} (keeps : Keeps s new) (names files : List (List ℕ)) (s
     all-accepted never config listed =
         let o = ordinary config listed in
         accepted-by (Preprocesses setting config) o.answer (map (seen names files) (items_at s p.list config)) (map (seen_fault files) (faults_at s p.faults.items config)) o.preprocessed
-        (ap (map (seen_fault files)) (faults_at-never s p.faults.items never config (here config listed))) o.stands
+        (ap (map (seen_fault files)) (faults_at-never s p.faults.items never config (here config listed.formed))) o.stands
 
     none-refused : AcceptsAll space (Preprocesses setting) → All (λ (f : base.Fault). IsNever s f.cond.0) p.faults.items
     none-refused all =
-        never-faults_at s p.faults.items (λ config listed.
-        let o = ordinary config (there config listed) in
-        let a = all config (there config listed) in
-        let none : map (seen_fault files) (faults_at s p.faults.items config) ≡ [] =
-        unrefused-by o.answer a.0 (map (seen names files) (items_at s p.list config)) (map (seen_fault files) (faults_at s p.faults.items config)) (pre-unique o.preprocessed a.1) o.stands in
-        nil_from_length (faults_at s p.faults.items config) (sym (length-map (faults_at s p.faults.items config) (seen_fault files)) ∙ ap length none))
+        never-faults_at s p.faults.items (λ config formed. elim (others config formed) [
+          | inl listed ↦ unrefused-at config listed
+          | inr out ↦ out
+        ])
+      where
+        unrefused-at : (config : List ℕ) → IsListed space config → faults_at s p.faults.items config ≡ []
+        unrefused-at config listed =
+            let o = ordinary config listed in
+            let a = all config listed in
+            let none : map (seen_fault files) (faults_at s p.faults.items config) ≡ [] =
+            unrefused-by o.answer a.0 (map (seen names files) (items_at s p.list config)) (map (seen_fault files) (faults_at s p.faults.items config)) (pre-unique o.preprocessed a.1) o.stands in
+            nil_from_length (faults_at s p.faults.items config) (sym (length-map (faults_at s p.faults.items config) (seen_fault files)) ∙ ap length none)
 
   pub tells-tokens : (parser : Parser) → IsTokensText (setting_of space main parser outside) (lines_of text) (not text.is_refused)
   tells-tokens parser = record {
     answer = shows.answer;
     text = subst (λ pieces. IsTextOf space pieces shows.answer) (sym shows.cut) shows.text_of;
+    valid = lists;
     verdict = tells-by text.is_refused (All (λ (f : base.Fault). IsNever s f.cond.0) p.faults.items) (shows.answer.faults ≡ []) none some no-fault-shown no-fault-had;
     right = record {
       each = ordinary-at parser;

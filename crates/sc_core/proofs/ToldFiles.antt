@@ -9,11 +9,12 @@ use Rattle.sc_prep.specs.Contents.{end_of_file}
 use Rattle.sc_prep.specs.declared.prepared.Prepared.{Prepared}
 use Rattle.sc_prep.specs.Preprocesses.{IsOrdinary, IsPreparedFrom}
 
-module _ {arities : List ℕ} {s : Sets} {names files : List (List ℕ)} {p : Prepared} {space : Space} {holds : Option Files} {main : List ℕ}
-    (from : IsPreparedFrom arities s names files p space holds main) (outside : Files) (told : holds ≡ Some outside) where
-  pub ordinary-told : (config : List ℕ) → IsConfig arities config → IsOrdinary s names files p (Pre space outside main config) config
-  ordinary-told = subst (λ held. (config : List ℕ) → IsConfig arities config → IsOrdinary s names files p (Pre space held main config) config) (from.held outside told) from.ordinary
+module _ {old s : Sets} {live : ℕ} {names files : List (List ℕ)} {p : Prepared} {space : Space} {holds : Option Files} {main : List ℕ}
+    (from : IsPreparedFrom old live s names files p space holds main) (outside : Files) (told : holds ≡ Some outside) where
+  pub ordinary-told : (config : List ℕ) → IsConfig old.arities config → old.has live config ≡ true → IsOrdinary s names files p (Pre space outside main config) config
+  ordinary-told =
+      subst (λ held. (config : List ℕ) → IsConfig old.arities config → old.has live config ≡ true → IsOrdinary s names files p (Pre space held main config) config) (from.held outside told) from.ordinary
 
-  pub ends-told : (bytes config : List ℕ) → outside main ≡ Some bytes → IsConfig arities config → s.has p.live.0 config ≡ true → seen_place files p.end ≡ end_of_file main bytes
-  ends-told = subst (λ (held : Files). (bytes config : List ℕ) → held main ≡ Some bytes → IsConfig arities config → s.has p.live.0 config ≡ true → seen_place files p.end ≡ end_of_file main bytes)
+  pub ends-told : (bytes config : List ℕ) → outside main ≡ Some bytes → IsConfig old.arities config → s.has p.live.0 config ≡ true → seen_place files p.end ≡ end_of_file main bytes
+  ends-told = subst (λ (held : Files). (bytes config : List ℕ) → held main ≡ Some bytes → IsConfig old.arities config → s.has p.live.0 config ≡ true → seen_place files p.end ≡ end_of_file main bytes)
       (from.held outside told) from.ends

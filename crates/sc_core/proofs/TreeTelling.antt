@@ -1,7 +1,8 @@
 -- That a text tells what ordinary translation gives.
-use Rattle.std.proofs.Common.{◌≡◌, ◌∙◌, ℕ, not, true, false, List, [], ◌∷◌, All, length, map, slice_get, Option, Some, Result, Ok, Err, refl, sym, ap, subst}
+use Rattle.std.proofs.Common.{◌≡◌, ◌∙◌, ℕ, not, true, false, List, [], ◌∷◌, All, length, map, slice_get, Option, Some, Result, Ok, Err, refl, sym, ap, subst, inl, inr, ◌⊎◌}
 use Rattle.std.proofs.lemmas.List.{length-map, nil_from_length}
 use Rattle.std.proofs.lemmas.List.Elements.{All-weaker}
+use Rattle.c11_directives.specs.Listed.{IsListed}
 use Rattle.c11_parsing.specs.Trees.{Tree}
 use Rattle.sc_base.proofs.Growth.{Extends-refl}
 use Rattle.sc_base.specs.declared.fault.Fault as base
@@ -21,7 +22,7 @@ use Rattle.sc_model.proofs.SetLemmas.{IsConfig-Keeps}
 use Rattle.sc_model.specs.Fault.{Fault}
 use Rattle.sc_model.specs.Outside.{Files}
 use Rattle.sc_model.specs.Sets.{Sets, IsCond, IsConfig, IsNever, Keeps}
-use Rattle.sc_model.specs.Space.{Space, IsListed, arities_of}
+use Rattle.sc_model.specs.Space.{Space, arities_of}
 use Rattle.sc_show.proofs.Pieces.{text_lines}
 use Rattle.sc_show.specs.Pieces.{IsLine, split_lines_after}
 use Rattle.sc_text.specs.Answer.{At, accepted, project, refused}
@@ -48,10 +49,11 @@ module _ {s new : Sets} (keeps : Keeps s new) (names files : List (List ℕ)) (s
   NoFault = All (λ (f : base.Fault). IsNever s f.cond.0) p.faults.items
 
   here : (config : List ℕ) → IsListed space config → IsConfig s.arities config
-  here config listed = subst (λ ns. IsConfig ns config) (sym arities) listed
+  here config listed = subst (λ ns. IsConfig ns config) (sym arities) listed.formed
 
-  there : (config : List ℕ) → IsConfig s.arities config → IsListed space config
-  there config listed = subst (λ ns. IsConfig ns config) arities listed
+  -- each configuration is listed, or has no fault
+  abbrev AreOthers : Type 0
+  AreOthers = (config : List ℕ) → IsConfig s.arities config → IsListed space config ⊎ (faults_at s p.faults.items config ≡ [])
 
   owns : All (λ (f : base.Fault). IsCond s f.cond.0) p.faults.items
   owns = All-weaker (IsShowableFault s files) (λ (f : base.Fault). IsCond s f.cond.0) (λ f is. is.own) p.faults.items shown.faults
@@ -65,8 +67,11 @@ module _ {s new : Sets} (keeps : Keeps s new) (names files : List (List ℕ)) (s
   none-at : (config : List ℕ) → map (seen_fault files) (faults_at s p.faults.items config) ≡ [] → faults_at s p.faults.items config ≡ []
   none-at config nothing = nil_from_length (faults_at s p.faults.items config) (sym (length-map (faults_at s p.faults.items config) (seen_fault files)) ∙ ap length nothing)
 
-  none-had : HasNoFault space shows.answer → NoFault
-  none-had nothing = never-faults_at s p.faults.items (λ config listed. none-at config (sym (shown-faults config (there config listed)) ∙ nothing config (there config listed)))
+  none-had : AreOthers → HasNoFault space shows.answer → NoFault
+  none-had others nothing = never-faults_at s p.faults.items (λ config formed. elim (others config formed) [
+    | inl listed ↦ none-at config (sym (shown-faults config listed) ∙ nothing config listed)
+    | inr none ↦ none
+  ])
 
   reads-now : (config : List ℕ) (id : ℕ) (tree : Tree) → IsConfig s.arities config → Reads (seen_by s names files p) config id tree → Reads (seen_by new names files p) config id tree
   reads-now config id tree listed reads =
@@ -104,10 +109,10 @@ module _ {s new : Sets} (keeps : Keeps s new) (names files : List (List ℕ)) (s
 
       none-refused : AcceptsAll space (Translates setting) → NoFault
       none-refused all =
-          never-faults_at s p.faults.items (λ config listed.
-          let at = are.each config (there config listed) in
-          let a = all config (there config listed) in
-          unrefused-by config at.ordinary a.0 (translates-unique at.translated a.1) at.stands)
+          never-faults_at s p.faults.items (λ config formed. elim (are.others config formed) [
+            | inl listed ↦ (let at = are.each config listed in let a = all config listed in unrefused-by config at.ordinary a.0 (translates-unique at.translated a.1) at.stands)
+            | inr none ↦ none
+          ])
 
       translation : IsTranslation setting shows.answer (not text.is_refused)
       translation = record {
@@ -121,7 +126,7 @@ module _ {s new : Sets} (keeps : Keeps s new) (names files : List (List ℕ)) (s
     tells-tree holds main most are = record {
       answer = shows.answer;
       text_of = subst (λ pieces. IsTextOf space pieces shows.answer) (sym shows.cut) shows.text_of;
-      verdict = tells-by text.is_refused NoFault (HasNoFault space shows.answer) none some none-shown none-had;
+      verdict = tells-by text.is_refused NoFault (HasNoFault space shows.answer) none some none-shown (none-had are.others);
       parser = are.parser;
       c11 = are.c11;
       files = are.files;

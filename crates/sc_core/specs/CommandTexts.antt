@@ -2,6 +2,7 @@
 use Rattle.std.specs.Prelude.{◌≡◌, ℕ, Bool, true, false, List, [], length, map, All, Option, Some, None, Result, Ok, Err}
 use Rattle.std.specs.List.{Contains}
 use Rattle.std.specs.Result.{is_ok}
+use Rattle.c11_directives.specs.Listed.{HasListed, IsListed}
 use Rattle.c11_parsing.specs.Trees.{Tree}
 use Rattle.sc_core.specs.Cut.{cut_space, first_config, last_config}
 use Rattle.sc_core.specs.Made.{made_files, made_name}
@@ -11,7 +12,7 @@ use Rattle.sc_text.specs.Answer.{Answer, At, HasSoundChoices, IsRooted, ShownTre
 use Rattle.sc_text.specs.Layout.{IsTextOf}
 use Rattle.sc_model.specs.Fault.{Fault}
 use Rattle.sc_model.specs.Growth.{IsOneToOne}
-use Rattle.sc_model.specs.Space.{Space, IsListed}
+use Rattle.sc_model.specs.Space.{Space}
 use Rattle.sc_model.specs.Token.{Shown, Token, shown}
 use Rattle.sc_show.specs.Conflicts.{conflict_pieces}
 use Rattle.sc_project.specs.declared.size.TreeSize.{TreeSize}
@@ -57,6 +58,7 @@ shown_answer (Err fault) = Err fault
 pub record IsTokensText (s : Setting) (pieces : List (List ℕ)) (accepted : Bool) : Type 0 where
   pub answer : Answer token_list
   pub text : IsTextOf s.space pieces answer
+  pub valid : HasListed s.space
   pub verdict : Tells accepted (answer.faults ≡ [])
   pub right : IsRight s.space (Preprocesses s) (λ config ordinary. At answer config (shown_answer ordinary)) accepted
 
@@ -83,7 +85,8 @@ pub record IsParseText (s : Setting) (pieces : List (List ℕ)) (accepted : Bool
   pub answer : Answer tree_parts
   pub text : IsTextOf s.space pieces answer
   pub choices : HasSoundChoices s.space answer.body.parts
-  pub rooted : IsRooted s.space answer
+  pub rooted : IsRooted (IsListed s.space) answer
+  pub valid : HasListed s.space
   pub verdict : Tells accepted (HasNoFault s.space answer)
   pub right : IsTranslation s answer accepted
   pub few : HasFewClasses s
@@ -104,6 +107,7 @@ pub record IsProjected (s : Setting) (config : List ℕ) (answer : Answer tree_p
 pub record IsProjectText (choices : List (List ℕ)) (s : Setting) (pieces : List (List ℕ)) (accepted : Bool) : Type 0 where
   pub config : List ℕ
   pub chosen : read_config s.space choices ≡ Ok config
+  pub listed : IsListed s.space config
   pub answer : Answer tree_parts
   pub text : IsTextOf (cut_space s.space config) pieces answer
   pub verdict : Tells accepted (HasNoFault (cut_space s.space config) answer)

@@ -73,4 +73,5 @@ made_space = record {
   date = codes "Jan  1 1970";
   time = codes "00:00:00";
   standard = C11;
+  valid = None;
 }

@@ -2,6 +2,7 @@
 use Rattle.std.specs.Prelude.{◌≡◌, ◌⊎◌, ◌<◌, ◌≤◌, ◌+◌, ℕ, true, List, length, All, AllPairs, Some, Result, Ok, Err}
 use Rattle.std.specs.Result.{is_ok}
 use Rattle.c11_directives.specs.Footprints.{Has, HasFootprints}
+use Rattle.c11_directives.specs.Listed.{IsListed}
 use Rattle.c11_directives.specs.Pre.{Pre}
 use Rattle.c11_parsing.specs.Classes.{Input, HasMoreClasses, project}
 use Rattle.c11_parsing.specs.LR.{LR}
@@ -11,7 +12,8 @@ use Rattle.c11_tokens.specs.Lex.{end_position}
 use Rattle.sc_fork.specs.Parsers.{IsC11Parser}
 use Rattle.sc_model.specs.Fault.{Fault}
 use Rattle.sc_model.specs.Outside.{Files}
-use Rattle.sc_model.specs.Space.{Space, IsListed, arities_of}
+use Rattle.sc_model.specs.Sets.{IsConfig}
+use Rattle.sc_model.specs.Space.{Space, arities_of}
 use Rattle.sc_model.specs.Token.{Place, Token}
 use Rattle.sc_parse.specs.MostClasses.{HasMostClasses}
 
@@ -42,17 +44,18 @@ pub data Translates (s : Setting) (config : List ℕ) : Result Tree Fault → Ty
 
 -- ---- where configurations differ
 
--- more configurations than branches are listed
+-- there are more configurations than branches, listed or not
 pub record HasManyConfigs (space : Space) : Type 0 where
   pub configs : List (List ℕ)
   pub many : space.branches < length configs
-  pub listed : All (IsListed space) configs
+  pub formed : All (IsConfig (arities_of space)) configs
   pub apart : AllPairs (λ c d. c ≡ d → ⊥) configs
 
--- At one macro name of the files that are preprocessed, or at one directive line, more
--- configurations than branches have footprints that differ from each other.
+-- At one macro name of the files that are preprocessed, or at one directive line, that which says
+-- which configurations are listed among them, more configurations than branches have footprints
+-- that differ from each other.
 abbrev pub HasManyFootprints : Setting → Type 0
-HasManyFootprints s = HasFootprints (IsListed s.space) (Has s.space s.files s.main) (s.space.branches + 1)
+HasManyFootprints s = HasFootprints (IsConfig (arities_of s.space)) (Has s.space s.files s.main) (s.space.branches + 1)
 
 -- at the configuration the input has the file's tokens and its end, where preprocessing accepts it
 pub record IsPreparedAt (s : Setting) (input : Input) (config : List ℕ) : Type 0 where

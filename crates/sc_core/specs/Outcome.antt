@@ -1,5 +1,6 @@
 -- What a run of the program does, by its status.
 use Rattle.std.specs.Prelude.{◌≡◌, ◌⊎◌, ℕ, ◌+◌, Bool, true, false, List, [], ◌∷◌, codes, map, All, Option, Some, None, Ok, Err}
+use Rattle.c11_directives.specs.Listed.{IsRefusedBy, SaysValid}
 use Rattle.sc_args.specs.Words.{Asked, tokens, parse, project as project_tree, conflicts, make, usage, bad_file, bad_count, asked_of}
 use Rattle.sc_core.specs.declared.run_error.RunError.{RunError}
 use Rattle.sc_core.specs.declared.run_error.RunError.TheVariants as error
@@ -9,8 +10,10 @@ use Rattle.sc_core.specs.CommandTexts.{IsConflictsText, IsParseText, IsProjectTe
 use Rattle.sc_core.specs.Made.{made_space}
 use Rattle.sc_core.specs.Ordinary.{HasManyBranches, HasManyConfigs, HasManyFootprints, Setting}
 use Rattle.sc_core.specs.RunError.{branches_line, line_of, status_of, space_line}
+use Rattle.sc_model.specs.declared.cause.Cause.{Cause}
 use Rattle.sc_model.specs.Outside.{Files, Rose, Write, Writes, WritesPart, whole_write}
-use Rattle.sc_model.specs.Space.{Space}
+use Rattle.sc_model.specs.Sets.{IsConfig}
+use Rattle.sc_model.specs.Space.{Space, arities_of}
 use Rattle.sc_show.specs.Pieces.{IsLine}
 use Rattle.sc_source.specs.Sink.{WritesCut}
 use Rattle.sc_space.specs.Config.{read_config}
@@ -70,6 +73,35 @@ pub record RefusesChoices (files : Files) (name : List ℕ) (choices : List (Lis
   pub read : read_config space choices ≡ Err fault
   pub told : line ≡ space_line fault
 
+-- Why no configuration of a space is listed: its text says nothing of some, or it holds nowhere,
+-- which is told as this fault.
+pub data ListsNone (space : Space) (none : file.Fault) : file.Fault → Type 0 where
+  unsaid_somewhere : (cause : Cause) → IsRefusedBy space cause → ListsNone space none (file.bad_valid cause)
+  nowhere : ((config : List ℕ) → IsConfig (arities_of space) config → SaysValid space config (Ok false)) → ListsNone space none none
+
+-- why a configuration is not listed
+pub data IsUnlisted (space : Space) (config : List ℕ) : file.Fault → Type 0 where
+  unsaid_there : (cause : Cause) → SaysValid space config (Err cause) → IsUnlisted space config (file.bad_valid cause)
+  not_there : SaysValid space config (Ok false) → IsUnlisted space config file.invalid
+
+-- the space file is held and read, it lists no configuration, and the line tells why
+pub record RefusesAll (files : Files) (name line : List ℕ) : Type 0 where
+  pub space : Space
+  pub fault : file.Fault
+  pub has_space : HasSpace files name space
+  pub why : ListsNone space file.no_configuration fault
+  pub told : line ≡ space_line fault
+
+-- it does not list the configuration that words choose
+pub record RefusesConfig (files : Files) (name : List ℕ) (choices : List (List ℕ)) (line : List ℕ) : Type 0 where
+  pub space : Space
+  pub config : List ℕ
+  pub fault : file.Fault
+  pub has_space : HasSpace files name space
+  pub read : read_config space choices ≡ Ok config
+  pub why : IsUnlisted space config fault
+  pub told : line ≡ space_line fault
+
 -- ---- jobs
 
 -- What the words of a command ask for.
@@ -90,21 +122,21 @@ abbrev pub job_of : Asked → Job
 job_of (tokens space main) = record {
   reads = true;
   has = λ holds. IsOn holds space main;
-  refuses = λ files line. RefusesSpace files space line;
+  refuses = λ files line. RefusesSpace files space line ⊎ RefusesAll files space line;
   text = IsTokensText;
   fills = λ holds s. WhereTold holds s.files (HasManyFootprints s);
 }
 job_of (parse space main) = record {
   reads = true;
   has = λ holds. IsOn holds space main;
-  refuses = λ files line. RefusesSpace files space line;
+  refuses = λ files line. RefusesSpace files space line ⊎ RefusesAll files space line;
   text = IsParseText;
   fills = λ holds s. WhereTold holds s.files (HasManyBranches s);
 }
 job_of (project_tree space main choices) = record {
   reads = true;
   has = λ holds. IsOn holds space main;
-  refuses = λ files line. RefusesSpace files space line ⊎ RefusesChoices files space choices line;
+  refuses = λ files line. RefusesSpace files space line ⊎ (RefusesChoices files space choices line ⊎ RefusesConfig files space choices line);
   text = IsProjectText choices;
   fills = λ holds s. ⊥;
 }

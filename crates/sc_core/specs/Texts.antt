@@ -1,5 +1,7 @@
 -- What the text of a command is, before it is written.
-use Rattle.std.specs.Prelude.{◌≡◌, true, false, ◌<◌, ◌≤◌, ◌+◌, ℕ, not, List, [], ◌∷◌, length, map, All, IfSome, Option, Some, None, Result, Ok, Err}
+use Rattle.std.specs.Prelude.{◌≡◌, ◌⊎◌, true, false, ◌<◌, ◌≤◌, ◌+◌, ℕ, not, List, [], ◌∷◌, length, map, All, IfSome, Option, Some, None, Result, Ok, Err}
+use Rattle.c11_directives.specs.Footprints.{HasFootprints, ValidHas}
+use Rattle.c11_directives.specs.Listed.{IsListed}
 use Rattle.c11_parsing.specs.Parser.{Parser}
 use Rattle.c11_parsing.specs.Trees.{Tree}
 use Rattle.sc_args.specs.Words.{Asked}
@@ -11,7 +13,7 @@ use Rattle.sc_core.specs.declared.tree_texts.ParsedFile.{ParsedFile}
 use Rattle.sc_core.specs.Cut.{first_config}
 use Rattle.sc_core.specs.Made.{made_name, made_space}
 use Rattle.sc_core.specs.Ordinary.{HasClasses, HasFewClasses, HasManyConfigs, Setting, Translates}
-use Rattle.sc_core.specs.RunError.{line_of, space_line}
+use Rattle.sc_core.specs.RunError.{branches_line, line_of, space_line}
 use Rattle.sc_fork.specs.Outcomes.{RootReads}
 use Rattle.sc_fork.specs.Parsers.{IsC11Parser}
 use Rattle.sc_guarded.specs.Items as guarded
@@ -37,9 +39,9 @@ use Rattle.sc_core.specs.declared.run_error.RunError.{RunError}
 use Rattle.sc_core.specs.declared.run_error.RunError.TheVariants as error
 use Rattle.sc_core.specs.declared.output.Output.{Output}
 use Rattle.sc_core.specs.CommandTexts.{HasNoFault, IsSummaryText, IsTokensText, IsTranslation, Tells}
-use Rattle.sc_core.specs.Outcome.{HasSpace, HasText, HasTextOf, MayHold, RefusesSpace, WhereTold, job_of}
+use Rattle.sc_core.specs.Outcome.{HasSpace, HasText, HasTextOf, ListsNone, MayHold, RefusesSpace, WhereTold, job_of}
 use Rattle.sc_model.specs.Outside.{Files, Rose}
-use Rattle.sc_model.specs.Space.{Space, IsListed}
+use Rattle.sc_model.specs.Space.{Space, arities_of}
 use Rattle.sc_show.specs.Pieces.{split_lines_after}
 
 abbrev pub lines_of : Output → List (List ℕ)
@@ -85,6 +87,26 @@ FailsToChoose space choices (error.BadSpace line) = (fault : file.Fault) × ((re
 FailsToChoose space choices error.OutOfMemory = Unit {0}
 FailsToChoose space choices _ = ⊥
 
+-- why a space lists nothing: no configuration is listed, for which this is told where the text of
+-- the space refuses none, or the text has too many footprints
+abbrev pub FailsToList : Space → file.Fault → RunError → Type 0
+FailsToList space none (error.BadSpace line) = (fault : file.Fault) × (ListsNone space none fault × (line.items ≡ space_line fault))
+FailsToList space none (error.BranchesFull line) = HasManyConfigs space × HasFootprints (IsConfig (arities_of space)) (ValidHas space) (space.branches + 1) × (line.items ≡ branches_line (space.branches + 1))
+FailsToList space none error.OutOfMemory = Unit {0}
+FailsToList space none _ = ⊥
+
+-- what a stop is told as
+abbrev pub TellsStop : Stop → RunError → Type 0
+TellsStop ReadFault error.ReadFault = Unit {0}
+TellsStop OutOfMemory error.OutOfMemory = Unit {0}
+TellsStop (BranchesFull count) (error.BranchesFull line) = line.items ≡ branches_line count
+TellsStop _ _ = ⊥
+
+-- what a fault of a space is told as
+abbrev pub TellsFault : file.Fault → RunError → Type 0
+TellsFault fault (error.BadSpace line) = line.items ≡ space_line fault
+TellsFault fault _ = ⊥
+
 -- what a refusal of a space file or of words is told as
 abbrev pub TellsRefusal : SpaceStop → RunError → Type 0
 TellsRefusal (stop.Fault fault) (error.BadSpace line) = line.items ≡ space_line (seen_fault fault)
@@ -112,21 +134,23 @@ pub record IsTranslated (s : Setting) (w : Tables) (root : Option TreeId) (fault
   pub translated : Translates s config ordinary
   pub stands : Stands w root faults config ordinary
 
--- each configuration has it, and the file has so many classes, no more than branches
+-- Each listed configuration has it, and the others have no fault. The file has so many classes, no
+-- more than branches.
 pub record AreTranslated (holds : Option Files) (space : Space) (main : List ℕ) (w : Tables) (root : Option TreeId) (faults : List base.Fault) (most : ℕ) : Type 0 where
   pub parser : Parser
   pub c11 : IsC11Parser space.standard parser
   pub files : Files
   pub held : MayHold holds files
   pub each : (config : List ℕ) → IsListed space config → IsTranslated (setting_of space main parser files) w root faults config
+  pub others : (config : List ℕ) → IsConfig w.sets.arities config → IsListed space config ⊎ (faults_at w.sets faults config ≡ [])
   pub classes : HasClasses (setting_of space main parser files) most
   pub few : most ≤ space.branches
 
--- Each configuration has its tree and no fault, or one fault. Where there is a root, some
--- configuration has a tree.
-pub record HasAnswers (w : Tables) (root : Option TreeId) (faults : List base.Fault) : Type 0 where
-  pub each : (config : List ℕ) → IsConfig w.sets.arities config → (result : Result Tree Fault) × Stands w root faults config result
-  pub some : (id : TreeId) → root ≡ Some id → (config : List ℕ) × (IsConfig w.sets.arities config × ((tree : Tree) × Stands w root faults config (Ok tree)))
+-- Each of these configurations has its tree and no fault, or one fault. Where there is a root, some
+-- of them has a tree.
+pub record HasAnswers (is_listed : List ℕ → Type 0) (w : Tables) (root : Option TreeId) (faults : List base.Fault) : Type 0 where
+  pub each : (config : List ℕ) → is_listed config → (result : Result Tree Fault) × Stands w root faults config result
+  pub some : (id : TreeId) → root ≡ Some id → (config : List ℕ) × (is_listed config × ((tree : Tree) × Stands w root faults config (Ok tree)))
 
 -- what a parsed file is, seen through the tables
 abbrev pub seen_by : Sets → (names files : List (List ℕ)) → ParsedFile → Tables
@@ -155,7 +179,7 @@ pub record IsPlain (w : Tables) (config : List ℕ) (old p : ParsedFile) : Type 
   pub plain : All (λ line. is_choice line ≡ false) p.trees
   pub laid : IsLaid w config p.trees old.root p.root
 
--- the text of a tree in this space, and whether some configuration has a fault
+-- the text of a tree in this space, which lists some configuration, and whether one has a fault
 pub record TellsTree (holds : Option Files) (space : Space) (main : List ℕ) (text : Output) : Type 0 where
   pub answer : Answer tree_parts
   pub text_of : IsTextOf space (lines_of text) answer
@@ -171,7 +195,7 @@ pub record TellsTree (holds : Option Files) (space : Space) (main : List ℕ) (t
 pub record TellsChoices (holds : Option Files) (space : Space) (main : List ℕ) (text : Output) : Type 0 where
   pub tells : TellsTree holds space main text
   pub choices : HasSoundChoices space tells.answer.body.parts
-  pub rooted : IsRooted space tells.answer
+  pub rooted : IsRooted (IsListed space) tells.answer
 
 -- In a space of one configuration the text is that of its result, a tree or a fault.
 pub record TellsPlain (holds : Option Files) (space : Space) (main : List ℕ) (text : Output) : Type 0 where

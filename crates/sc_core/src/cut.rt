@@ -2,7 +2,7 @@
 ghost use Rattle.std.specs.Prelude.{◌≡◌, ◌∷◌, [], IfOk, length, map};
 ghost use Rattle.sc_core.specs.Cut.{cut_space, cut_variables};
 ghost use Rattle.sc_model.specs.Sets.{IsConfig};
-ghost use Rattle.sc_model.specs.Space.{IsListed};
+ghost use Rattle.sc_model.specs.Space.{arities_of};
 ghost use Rattle.sc_space.specs.Seen.{seen_item, seen_option, seen_space, seen_variable};
 
 use sc_base::OutOfMemory;
@@ -12,7 +12,7 @@ use std::alloc::Global;
 /// The space whose one configuration is this one: each variable has the option alone that it has
 /// there.
 pub fn cut(alloc: Global, space: Space, config: &[usize]) -> Result<Space, OutOfMemory>
-    requires { IsListed (seen_space space) config.now }
+    requires { IsConfig (arities_of (seen_space space)) config.now }
     ensures { IfOk result (λ only. seen_space only ≡ cut_space (seen_space space) config.now) }
 {
     let variables = cut_variables(alloc, &space.variables, config)?;
@@ -23,6 +23,7 @@ pub fn cut(alloc: Global, space: Space, config: &[usize]) -> Result<Space, OutOf
         date: space.date,
         time: space.time,
         standard: space.standard,
+        valid: space.valid,
     })
 }
 

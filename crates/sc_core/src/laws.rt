@@ -1,8 +1,8 @@
 //! Laws about the texts of a run, each the contract of a function without code.
 ghost use Rattle.std.specs.Prelude.{Bool, List, ℕ, None, Some, [], slice_get, ◌∷◌, ◌≡◌};
+ghost use Rattle.c11_directives.specs.Listed.{IsListed};
 ghost use Rattle.sc_core.specs.Ordinary.{Setting};
 ghost use Rattle.sc_core.specs.CommandTexts.{IsParseText};
-ghost use Rattle.sc_model.specs.Space.{IsListed};
 ghost use Rattle.sc_text.specs.Answer.{Answer, Condition, choice_part, project, tree_parts};
 ghost use Rattle.sc_text.specs.Text.{Reads};
 

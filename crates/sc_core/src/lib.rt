@@ -3,6 +3,7 @@
 
 mod cut;
 mod laws;
+mod listed;
 mod made;
 mod output;
 mod program;

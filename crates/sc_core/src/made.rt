@@ -64,6 +64,7 @@ pub fn made_space(alloc: Global) -> Result<Space, OutOfMemory>
         date: String::from_str(alloc, "Jan  1 1970")?,
         time: String::from_str(alloc, "00:00:00")?,
         standard: Standard::C11,
+        valid: None,
     })
 }
 

@@ -1,8 +1,8 @@
 ghost use Rattle.std.specs.Prelude.{◌≡◌, ◌≤◌, map, string_bytes, Ok, Some, IfOk, IfErr};
 ghost use Rattle.sc_core.specs.RunError.{space_line};
-ghost use Rattle.sc_core.specs.Texts.{FailsInSpace, FailsToChoose, ReadsSpace, TellsRefusal};
-ghost use Rattle.sc_model.specs.Sets.{HasOptions};
-ghost use Rattle.sc_model.specs.Space.{IsListed, arities_of};
+ghost use Rattle.sc_core.specs.Texts.{FailsInSpace, FailsToChoose, ReadsSpace, TellsFault, TellsRefusal};
+ghost use Rattle.sc_model.specs.Sets.{HasOptions, IsConfig};
+ghost use Rattle.sc_model.specs.Space.{arities_of};
 ghost use Rattle.sc_space.specs.Config.{read_config};
 ghost use Rattle.sc_space.specs.Seen.{seen_space, seen_fault};
 ghost use Rattle.sc_space.specs.Sound.{IsSound};
@@ -40,7 +40,7 @@ pub fn chosen_config(
 ) -> Result<Vec<usize>, RunError>
     requires { IsSound (seen_space space.now) }
     ensures config { IfOk result (λ config. read_config (seen_space space.now) (map string_bytes choices.now) ≡ Ok config.items) }
-    ensures listed { IfOk result (λ config. IsListed (seen_space space.now) config.items) }
+    ensures formed { IfOk result (λ config. IsConfig (arities_of (seen_space space.now)) config.items) }
     ensures error { IfErr result (FailsToChoose (seen_space space.now) (map string_bytes choices.now)) }
 {
     match space.config(alloc, choices) {
@@ -54,9 +54,16 @@ fn refusal(alloc: Global, stop: SpaceStop) -> Result<RunError, OutOfMemory>
     ensures { IfOk result (TellsRefusal stop) }
 {
     match stop {
-        SpaceStop::Fault(fault) => Ok(RunError::BadSpace(fault_line(alloc, &fault)?)),
+        SpaceStop::Fault(fault) => bad_space(alloc, &fault),
         SpaceStop::OutOfMemory => Ok(RunError::OutOfMemory),
     }
+}
+
+/// What is told of a fault of a space.
+pub fn bad_space(alloc: Global, fault: &SpaceFault) -> Result<RunError, OutOfMemory>
+    ensures { IfOk result (TellsFault (seen_fault fault.now)) }
+{
+    Ok(RunError::BadSpace(fault_line(alloc, fault)?))
 }
 
 /// What the error output gets for a fault of a space file.

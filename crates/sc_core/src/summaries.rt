@@ -10,7 +10,7 @@ ghost use Rattle.sc_core.specs.Texts.{HasAnswers, IsAnswerFor, Stands, StopsIn, 
 ghost use Rattle.sc_guarded.specs.Items.{faults_at};
 ghost use Rattle.sc_model.specs.Fault as model;
 ghost use Rattle.sc_model.specs.Outside.{Files as Outside};
-ghost use Rattle.sc_model.specs.Sets.{IsCond, IsConfig};
+ghost use Rattle.sc_model.specs.Sets.{IsAlways, IsCond, IsConfig};
 ghost use Rattle.sc_model.specs.Space.{arities_of};
 ghost use Rattle.sc_show.specs.Pieces.{IsLine};
 ghost use Rattle.sc_space.specs.Seen.{seen_space};
@@ -20,7 +20,7 @@ use crate::output::Output;
 use crate::run_error::RunError;
 use crate::texts::{branches_line, conditions};
 use crate::tree_texts::{ParsedFile, parsed};
-use sc_base::{Fault, Files, Names, OutOfMemory, Stop};
+use sc_base::{Cond, Fault, Files, Names, OutOfMemory, Stop};
 use sc_presence::Conditions;
 use sc_project::{TreeSize, tree_size};
 use sc_show::{Summary, count_faults, show_make};
@@ -36,7 +36,8 @@ pub fn make_text(alloc: Global, items: u32) -> Result<Output, RunError>
     let space = made_space(alloc)?;
     let mut file = MadeFile::new(alloc, items)?;
     let mut conds = conditions(alloc, &space)?;
-    match summary_under(alloc, &mut file, &mut conds, &space, items) {
+    let live = conds.always();
+    match summary_under(alloc, &mut file, &mut conds, &space, live, items) {
         Ok(text) => Ok(text),
         Err(Stop::ReadFault) => unreachable!(),
         Err(Stop::OutOfMemory) => Err(RunError::OutOfMemory),
@@ -52,17 +53,22 @@ fn summary_under<C: Conditions, S: Source>(
     src: &mut S,
     conds: &mut C,
     space: &Space,
+    live: Cond,
     items: u32,
 ) -> Result<Output, Stop>
     requires arities { (C.sets conds.old).arities ≡ arities_of (seen_space space.now) }
     requires space { seen_space space.now ≡ made_space }
+    requires own { IsCond (C.sets conds.old) live.0 }
+    requires live { IsAlways (C.sets conds.old) live.0 }
     ensures lines { IfOk result (λ text. All IsLine (lines_of text)) }
     ensures summary { IfOk result (TellsSummary (S.holds src.old) items) }
     ensures stops { IfErr result (StopsIn (λ s. HasManyBranches s) (S.holds src.old) (S.faults src.old) (S.faults src.new) made_space made_name) }
 {
     let mut names = Names::new(alloc)?;
     let mut files = Files::new(alloc)?;
-    let parsed = parsed(alloc, src, conds, space, &mut names, &mut files, MADE_NAME)?;
+    let parsed = parsed(
+        alloc, src, conds, space, live, &mut names, &mut files, MADE_NAME,
+    )?;
     let first = vec![in alloc; 0; space.variables.len()]?;
     let last = vec![in alloc; 1; space.variables.len()]?;
     let summary = Summary {
@@ -87,7 +93,7 @@ fn size_at<C: Conditions>(
 ) -> Result<Option<TreeSize>, OutOfMemory>
     requires config { IsConfig (C.sets conds.now).arities config.now }
     requires own { All (λ fault. IsCond (C.sets conds.now) fault.cond.0) parsed.now.faults.items }
-    requires answered { (names files : List (List ℕ)) × HasAnswers (seen_by (C.sets conds.now) names files parsed.now) parsed.now.root parsed.now.faults.items }
+    requires answered { (names files : List (List ℕ)) × HasAnswers (IsConfig (C.sets conds.now).arities) (seen_by (C.sets conds.now) names files parsed.now) parsed.now.root parsed.now.faults.items }
     ensures { IfOk result (λ size. (names files : List (List ℕ)) (ordinary : Result Tree model.Fault)
         → Stands (seen_by (C.sets conds.now) names files parsed.now) parsed.now.root parsed.now.faults.items config.now ordinary → size ≡ size_in ordinary) }
 {

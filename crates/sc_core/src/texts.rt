@@ -9,10 +9,12 @@ ghost use Rattle.sc_model.specs.Outside.{Files as Outside};
 ghost use Rattle.sc_model.specs.Sets.{IsCond, IsNever};
 ghost use Rattle.sc_model.specs.Space.{arities_of};
 ghost use Rattle.sc_model.specs.Bytes.{has_no_newline};
+ghost use Rattle.sc_prep.specs.Valid.{IsValidSet};
 ghost use Rattle.sc_show.specs.Pieces.{IsLine};
 ghost use Rattle.sc_space.specs.Seen.{seen_space, seen_variable};
 ghost use Rattle.sc_space.specs.Sound.{IsSound};
 
+use crate::listed::listed;
 use crate::output::Output;
 use crate::run_error::RunError;
 use crate::space_file::read_space;
@@ -20,13 +22,13 @@ use crate::summaries::make_text;
 use crate::tree_texts::{parse_text, project_text};
 use itoa::Buffer;
 use sc_args::Command;
-use sc_base::{Fault, Files, Names, OutOfMemory, Stop};
+use sc_base::{Cond, Fault, Files, Names, OutOfMemory, Stop};
 use sc_lalr::Tables;
 use sc_prep::preprocess;
 use sc_presence::{Conditions, Diagrams};
 use sc_show::{show_conflicts, show_tokens};
 use sc_source::Source;
-use sc_space::{Space, Variable};
+use sc_space::{Space, SpaceFault, Variable};
 use std::alloc::Global;
 
 /// The text that the words ask for.
@@ -73,7 +75,7 @@ pub fn tables(alloc: Global) -> Result<Tables, OutOfMemory>
     sc_lalr::build(alloc, &grammar, &states)
 }
 
-/// The tokens and the faults of a file under all configurations of the space of another.
+/// The tokens and the faults of a file under all configurations that the space of another lists.
 fn tokens_text<S: Source>(
     alloc: Global,
     src: &mut S,
@@ -90,7 +92,8 @@ fn tokens_text<S: Source>(
 {
     let space = read_space(alloc, src, space)?;
     let mut conds = conditions(alloc, &space)?;
-    match text_under(alloc, src, &mut conds, &space, file) {
+    let live = listed(alloc, &mut conds, &space, SpaceFault::NoConfiguration)?;
+    match text_under(alloc, src, &mut conds, &space, live, file) {
         Ok(text) => Ok(text),
         Err(Stop::ReadFault) => Err(RunError::ReadFault),
         Err(Stop::OutOfMemory) => Err(RunError::OutOfMemory),
@@ -131,17 +134,20 @@ fn arities(alloc: Global, variables: &[Variable]) -> Result<Vec<usize>, OutOfMem
     Ok(arities)
 }
 
-/// The tokens and the faults of a file under all configurations of a space.
+/// The tokens and the faults of a file under the configurations that a space lists.
 #[tactic(auto, using(sc_model::proofs::SetLemmas::conditions))]
 fn text_under<C: Conditions, S: Source>(
     alloc: Global,
     src: &mut S,
     conds: &mut C,
     space: &Space,
+    live: Cond,
     file: &str,
 ) -> Result<Output, Stop>
     requires arities { (C.sets conds.old).arities ≡ arities_of (seen_space space.now) }
     requires sound { IsSound (seen_space space.now) }
+    requires listed { IsValidSet (C.sets conds.old) (seen_space space.now) live.0 }
+    requires some { IsNever (C.sets conds.old) live.0 → ⊥ }
     requires plain { has_no_newline file.now ≡ true }
     ensures lines { IfOk result (λ text. All IsLine (lines_of text)) }
     ensures tokens { IfOk result (TellsTokens (S.holds src.old) (seen_space space.now) file.now) }
@@ -153,7 +159,7 @@ fn text_under<C: Conditions, S: Source>(
 {
     let mut names = Names::new(alloc)?;
     let mut files = Files::new(alloc)?;
-    let prepared = preprocess(alloc, src, file, space, conds, &mut names, &mut files)?;
+    let prepared = preprocess(alloc, src, file, space, live, conds, &mut names, &mut files)?;
     let is_refused = has_fault(conds, &prepared.faults);
     let lines = show_tokens(
         alloc,

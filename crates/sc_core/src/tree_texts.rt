@@ -1,5 +1,6 @@
 //! The texts of trees.
 ghost use Rattle.std.specs.Prelude.{◌≡◌, ◌≤◌, ℕ, List, Some, All, true, false, map, string_bytes, IfOk, IfErr};
+ghost use Rattle.c11_directives.specs.Listed.{IsListed};
 ghost use Rattle.sc_args.specs.Words.{is_file_name, parse as asked_parse, project as asked_project};
 ghost use Rattle.sc_core.specs.Cut.{first_config};
 ghost use Rattle.sc_core.specs.Ordinary.{HasManyBranches};
@@ -11,24 +12,26 @@ ghost use Rattle.sc_model.specs.Growth.{Extends};
 ghost use Rattle.sc_model.specs.Sets.{IsConfig, IsNever, Keeps};
 ghost use Rattle.sc_model.specs.Space.{arities_of};
 ghost use Rattle.sc_prep.specs.Printable.{ArePlainPaths};
+ghost use Rattle.sc_prep.specs.Valid.{IsValidSet};
 ghost use Rattle.sc_show.specs.Pieces.{IsLine};
 ghost use Rattle.sc_show.specs.TreeShows.{ShowsTree};
 ghost use Rattle.sc_space.specs.Seen.{seen_space};
 ghost use Rattle.sc_space.specs.Sound.{IsSound};
 
 use crate::cut::cut;
+use crate::listed::listed;
 use crate::output::Output;
 use crate::run_error::RunError;
 use crate::space_file::{chosen_config, read_space};
 use crate::texts::{branches_line, conditions, has_fault, tables};
-use sc_base::{Fault, Files, Names, OutOfMemory, Stop, TreeId};
+use sc_base::{Cond, Fault, Files, Names, OutOfMemory, Stop, TreeId};
 use sc_parse::parse;
 use sc_prep::preprocess;
 use sc_presence::Conditions;
 use sc_project::project_tree;
 use sc_show::show_tree;
 use sc_source::Source;
-use sc_space::Space;
+use sc_space::{Space, SpaceFault};
 use sc_tree::Trees;
 use std::alloc::Global;
 
@@ -42,7 +45,7 @@ pub struct ParsedFile {
     pub classes: usize,
 }
 
-/// The tree and the faults of a file under all configurations of the space of another.
+/// The tree and the faults of a file under all configurations that the space of another lists.
 pub fn parse_text<S: Source>(
     alloc: Global,
     src: &mut S,
@@ -59,7 +62,8 @@ pub fn parse_text<S: Source>(
 {
     let space = read_space(alloc, src, space)?;
     let mut conds = conditions(alloc, &space)?;
-    match tree_under(alloc, src, &mut conds, &space, file) {
+    let live = listed(alloc, &mut conds, &space, SpaceFault::NoConfiguration)?;
+    match tree_under(alloc, src, &mut conds, &space, live, file) {
         Ok(text) => Ok(text),
         Err(Stop::ReadFault) => Err(RunError::ReadFault),
         Err(Stop::OutOfMemory) => Err(RunError::OutOfMemory),
@@ -90,7 +94,8 @@ pub fn project_text<S: Source>(
     let config = chosen_config(alloc, &space, choices)?;
     let only = cut(alloc, space, &config)?;
     let mut conds = conditions(alloc, &only)?;
-    match plain_under(alloc, src, &mut conds, &only, file) {
+    let live = listed(alloc, &mut conds, &only, SpaceFault::Invalid)?;
+    match plain_under(alloc, src, &mut conds, &only, live, file) {
         Ok(text) => Ok(text),
         Err(Stop::ReadFault) => Err(RunError::ReadFault),
         Err(Stop::OutOfMemory) => Err(RunError::OutOfMemory),
@@ -100,16 +105,19 @@ pub fn project_text<S: Source>(
     }
 }
 
-/// The tree and the faults of a file under all configurations of a space.
+/// The tree and the faults of a file under the configurations that a space lists.
 fn tree_under<C: Conditions, S: Source>(
     alloc: Global,
     src: &mut S,
     conds: &mut C,
     space: &Space,
+    live: Cond,
     file: &str,
 ) -> Result<Output, Stop>
     requires arities { (C.sets conds.old).arities ≡ arities_of (seen_space space.now) }
     requires sound { IsSound (seen_space space.now) }
+    requires listed { IsValidSet (C.sets conds.old) (seen_space space.now) live.0 }
+    requires some { IsNever (C.sets conds.old) live.0 → ⊥ }
     requires plain { has_no_newline file.now ≡ true }
     ensures lines { IfOk result (λ text. All IsLine (lines_of text)) }
     ensures tree { IfOk result (TellsChoices (S.holds src.old) (seen_space space.now) file.now) }
@@ -121,7 +129,7 @@ fn tree_under<C: Conditions, S: Source>(
 {
     let mut names = Names::new(alloc)?;
     let mut files = Files::new(alloc)?;
-    let parsed = parsed(alloc, src, conds, space, &mut names, &mut files, file)?;
+    let parsed = parsed(alloc, src, conds, space, live, &mut names, &mut files, file)?;
     Ok(text_of(alloc, conds, space, &names, &files, &parsed)?)
 }
 
@@ -131,10 +139,13 @@ fn plain_under<C: Conditions, S: Source>(
     src: &mut S,
     conds: &mut C,
     space: &Space,
+    live: Cond,
     file: &str,
 ) -> Result<Output, Stop>
     requires arities { (C.sets conds.old).arities ≡ arities_of (seen_space space.now) }
     requires sound { IsSound (seen_space space.now) }
+    requires listed { IsValidSet (C.sets conds.old) (seen_space space.now) live.0 }
+    requires some { IsNever (C.sets conds.old) live.0 → ⊥ }
     requires plain { has_no_newline file.now ≡ true }
     requires one { (c : List ℕ) → IsConfig (arities_of (seen_space space.now)) c → c ≡ first_config (seen_space space.now) }
     ensures lines { IfOk result (λ text. All IsLine (lines_of text)) }
@@ -147,7 +158,7 @@ fn plain_under<C: Conditions, S: Source>(
 {
     let mut names = Names::new(alloc)?;
     let mut files = Files::new(alloc)?;
-    let parsed = parsed(alloc, src, conds, space, &mut names, &mut files, file)?;
+    let parsed = parsed(alloc, src, conds, space, live, &mut names, &mut files, file)?;
     let plain = plain(alloc, conds, space, &names, &files, parsed)?;
     Ok(text_of(alloc, conds, space, &names, &files, &plain)?)
 }
@@ -159,18 +170,21 @@ pub fn parsed<C: Conditions, S: Source>(
     src: &mut S,
     conds: &mut C,
     space: &Space,
+    live: Cond,
     names: &mut Names,
     files: &mut Files,
     file: &str,
 ) -> Result<ParsedFile, Stop>
     requires arities { (C.sets conds.old).arities ≡ arities_of (seen_space space.now) }
     requires sound { IsSound (seen_space space.now) }
+    requires listed { IsValidSet (C.sets conds.old) (seen_space space.now) live.0 }
+    requires some { IsNever (C.sets conds.old) live.0 → ⊥ }
     requires plain { has_no_newline file.now ≡ true }
     requires paths { ArePlainPaths files.old }
     ensures shown { IfOk result (CanShowTree (C.sets conds.new) names.new files.new) }
     ensures translated { IfOk result (λ p. AreTranslated (S.holds src.old) (seen_space space.now) file.now
         (seen_by (C.sets conds.new) names.new files.new p) p.root p.faults.items p.classes) }
-    ensures answered { IfOk result (λ p. HasAnswers (seen_by (C.sets conds.new) names.new files.new p) p.root p.faults.items) }
+    ensures answered { IfOk result (λ p. HasAnswers (IsListed (seen_space space.now)) (seen_by (C.sets conds.new) names.new files.new p) p.root p.faults.items) }
     ensures choices { IfOk result (λ p. AreSound (C.sets conds.new) p.trees) }
     ensures stops { IfErr result (StopsIn (λ s. HasManyBranches s) (S.holds src.old) (S.faults src.old) (S.faults src.new) (seen_space space.now) file.now) }
 
@@ -179,7 +193,7 @@ pub fn parsed<C: Conditions, S: Source>(
     ensures counted { S.faults src.old ≤ S.faults src.new }
     ensures keeps { Keeps (C.sets conds.old) (C.sets conds.new) }
 {
-    let prepared = preprocess(alloc, src, file, space, conds, names, files)?;
+    let prepared = preprocess(alloc, src, file, space, live, conds, names, files)?;
     let tables = tables(alloc)?;
     let mut trees = Trees::new(alloc);
     let mut parsed = parse(
@@ -217,7 +231,7 @@ fn plain<C: Conditions>(
     requires sound { IsSound (seen_space space.now) }
     requires one { (c : List ℕ) → IsConfig (arities_of (seen_space space.now)) c → c ≡ first_config (seen_space space.now) }
     requires shown { CanShowTree (C.sets conds.now) names.now files.now parsed }
-    requires answered { HasAnswers (seen_by (C.sets conds.now) names.now files.now parsed) parsed.root parsed.faults.items }
+    requires answered { HasAnswers (IsListed (seen_space space.now)) (seen_by (C.sets conds.now) names.now files.now parsed) parsed.root parsed.faults.items }
     ensures shown { IfOk result (CanShowTree (C.sets conds.now) names.now files.now) }
     ensures plain { IfOk result (IsPlain (seen_by (C.sets conds.now) names.now files.now parsed) (first_config (seen_space space.now)) parsed) }
 {

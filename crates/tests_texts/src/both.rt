@@ -78,7 +78,8 @@ fn prepared<C: Conditions>(
 {
     let mut source = MemorySource::new(alloc);
     source.add("m.c", main)?;
-    Ok(preprocess(alloc, &mut source, "m.c", space, conds, names, files)?)
+    let live = conds.always();
+    Ok(preprocess(alloc, &mut source, "m.c", space, live, conds, names, files)?)
 }
 
 /// The text of the tokens and the faults of a file over these conditions.

@@ -80,6 +80,7 @@ fn space(alloc: Global) -> Result<Space, OutOfMemory>
         date: String::new(alloc),
         time: String::new(alloc),
         standard: Standard::C11,
+        valid: None,
     })
 }
 

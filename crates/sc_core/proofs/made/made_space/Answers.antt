@@ -1,4 +1,4 @@
-use Rattle.std.proofs.Common.{◌≡◌, ◌∙◌, [], ap, arith, map, string_bytes, take_all}
+use Rattle.std.proofs.Common.{◌≡◌, ◌∙◌, [], None, ap, arith, map, string_bytes, take_all}
 use Rattle.sc_core.specs.Made.{made_variable}
 use Rattle.sc_core.proofs.made.made_space.Goals as goal
 use Rattle.sc_model.specs.declared.standard.Standard.TheVariants.{C11}
@@ -9,4 +9,4 @@ returns c =
     let include : map string_bytes c.new.result.items ≡ [] = ap (map string_bytes) c.new.ensures.items in
     let date = c.in_ok-from_str.ensures.ok in
     let time = c.in_ok-from_str-2.ensures.ok in
-    λ i. record { variables = variables i; include = include i; branches = 4096; include_depth = 64; date = date i; time = time i; standard = C11 }
+    λ i. record { variables = variables i; include = include i; branches = 4096; include_depth = 64; date = date i; time = time i; standard = C11; valid = None }

@@ -14,6 +14,9 @@ use Rattle.sc_space.specs.Sound.{IsSound}
 pub conditions-requires : goal.conditions-requires
 conditions-requires c = subst IsSound (sym c.in_ok-space.ensures) made-sound
 
+pub summary_under-requires-clause-live : goal.summary_under-requires-clause-live
+summary_under-requires-clause-live c = record { all = c.always-live.ensures.meaning.at }
+
 -- whatever the source holds, the file is the one that is made
 pub returns-in-Ok-clause-text : goal.returns-in-Ok-clause-text
 returns-in-Ok-clause-text c = λ holds.

@@ -1,14 +1,15 @@
 use Rattle.std.proofs.Common.{◌≡◌, ◌∙◌, ℕ, List, All, Result, ap, arith, refl, subst, sym, true}
 use Rattle.std.proofs.lemmas.List.Elements.{All-nil}
 use Rattle.std.proofs.lemmas.Result.{err_from_is_err_and}
+use Rattle.c11_directives.specs.Listed.{IsListed}
 use Rattle.c11_parsing.specs.Trees.{Tree}
 use Rattle.sc_base.specs.declared.fault.Fault as base
 use Rattle.sc_core.proofs.MadeSpaces.{made-sound}
-use Rattle.sc_core.proofs.SummaryLemmas.{first-chosen, first-is, last-chosen, last-is, summary-told}
+use Rattle.sc_core.proofs.SummaryLemmas.{first-chosen, first-is, last-chosen, last-is, made-answers, made-some, made-valid, summary-told}
 use Rattle.sc_core.proofs.summaries.summary_under.Goals as goal
 use Rattle.sc_core.specs.Cut.{first_config, last_config}
 use Rattle.sc_core.specs.Made.{made_name, made_space}
-use Rattle.sc_core.specs.Texts.{AreTranslated, Stands, seen_by}
+use Rattle.sc_core.specs.Texts.{AreTranslated, HasAnswers, Stands, seen_by}
 use Rattle.sc_model.specs.Bytes.{has_no_newline}
 use Rattle.sc_model.specs.Fault.{Fault}
 use Rattle.sc_model.specs.Space.{Space, arities_of}
@@ -25,6 +26,12 @@ parsed-requires-clause-sound g c = subst IsSound (sym c.requires.space) made-sou
 pub parsed-requires-clause-paths : goal.parsed-requires-clause-paths
 parsed-requires-clause-paths g c = subst ArePlainPaths (sym c.in_ok-files.ensures) (All-nil (λ path. has_no_newline path ≡ true))
 
+pub parsed-requires-clause-listed : goal.parsed-requires-clause-listed
+parsed-requires-clause-listed g c = made-valid c.requires.space c.requires.arities c.args.live.0 c.requires.own c.requires.live
+
+pub parsed-requires-clause-some : goal.parsed-requires-clause-some
+parsed-requires-clause-some g c = made-some c.requires.space c.requires.arities c.args.live.0 c.requires.own c.requires.live
+
 pub size_at-requires-clause-config : goal.size_at-requires-clause-config
 size_at-requires-clause-config g c =
     let arities = c.in_ok-parsed.ensures.keeps.arities ∙ c.requires.arities ∙ ap arities_of c.requires.space in
@@ -36,6 +43,26 @@ size_at-requires-2-clause-config g c =
     let arities = c.in_ok-parsed.ensures.keeps.arities ∙ c.requires.arities ∙ ap arities_of c.requires.space in
     last-chosen c.args.space.now c.len-2.result c.deref-2.result.now (g.C.Conditions.sets c.parsed.new.conds) (omega (arith, c.args.space.now.variables.ok.0, c.len-2.ensures)) c.requires.space arities
     (c.deref-2.ensures.value ∙ c.in_ok-last.ensures.items_if_clones_equal (λ y e. e))
+
+pub size_at-requires-clause-answered : goal.size_at-requires-clause-answered
+size_at-requires-clause-answered g c =
+    let s = g.C.Conditions.sets c.parsed.new.conds in
+    let names = c.parsed.new.names in
+    let files = c.parsed.new.files in
+    let p = c.in_ok-parsed.parsed in
+    let made = c.in_ok-parsed.ensures in
+    let answered = subst (λ (space : Space). HasAnswers (IsListed space) (seen_by s names files p) p.root p.faults.items) c.requires.space made.answered in
+    (names, files, made-answers s names files p (made.keeps.arities ∙ c.requires.arities ∙ ap arities_of c.requires.space) answered)
+
+pub size_at-requires-2-clause-answered : goal.size_at-requires-2-clause-answered
+size_at-requires-2-clause-answered g c =
+    let s = g.C.Conditions.sets c.parsed.new.conds in
+    let names = c.parsed.new.names in
+    let files = c.parsed.new.files in
+    let p = c.in_ok-parsed.parsed in
+    let made = c.in_ok-parsed.ensures in
+    let answered = subst (λ (space : Space). HasAnswers (IsListed space) (seen_by s names files p) p.root p.faults.items) c.requires.space made.answered in
+    (names, files, made-answers s names files p (made.keeps.arities ∙ c.requires.arities ∙ ap arities_of c.requires.space) answered)
 
 pub returns-in_err-first-clause-stops : goal.returns-in_err-first-clause-stops
 returns-in_err-first-clause-stops g c =

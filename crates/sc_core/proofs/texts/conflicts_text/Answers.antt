@@ -17,7 +17,7 @@ show_conflicts-requires c =
 
 -- it is about no files
 no-space : Space
-no-space = record { variables = []; include = []; branches = 0; include_depth = 0; date = []; time = []; standard = C11 }
+no-space = record { variables = []; include = []; branches = 0; include_depth = 0; date = []; time = []; standard = C11; valid = None }
 
 pub returns : goal.returns
 unfolding no-space

@@ -1,12 +1,14 @@
 use Rattle.std.proofs.Common.{◌≡◌, ◌∙◌, ℕ, true, List, All, Some, inl, refl, sym, subst}
 use Rattle.std.proofs.lemmas.List.Elements.{All-weaker}
 use Rattle.std.proofs.lemmas.Result.{err_from_is_err_and}
+use Rattle.c11_directives.specs.Listed.{IsListed}
 use Rattle.sc_base.specs.declared.id.Cond.{Cond}
 use Rattle.sc_base.specs.declared.token.Token.{Token}
 use Rattle.sc_base.specs.Seen.{IsHeld}
-use Rattle.sc_core.proofs.ParsedFiles.{c11-is, c11-parser, file-input, input, is-input, is-listed-input, listed_input, parsed-answers, parsed-apart, parsed-faults, parsed-leaves, stops-in, translated-at}
+use Rattle.sc_core.proofs.ParsedFiles.{c11-is, c11-parser, file-input, input, is-input, is-listed-input, listed_input, others-after, parsed-answers, parsed-apart, parsed-faults, parsed-leaves, stops-in, translated-at}
 use Rattle.sc_core.proofs.Choices.{no-choices}
 use Rattle.sc_core.proofs.Filling.{stops-before}
+use Rattle.sc_core.proofs.Listing.{files-stop, formed-before, formed-now, has-listed, prepared-listed, prepared-live, prepared-ordinary, prepared-others}
 use Rattle.sc_core.proofs.ToldFiles.{ends-told, ordinary-told}
 use Rattle.sc_core.proofs.tree_texts.parsed.Goals as goal
 use Rattle.sc_core.proofs.tree_texts.parsed.Goals.{After-drop-prepared-2}
@@ -30,7 +32,8 @@ pub returns-in_err-prepared-clause-stops : goal.returns-in_err-prepared-clause-s
 returns-in_err-prepared-clause-stops g c =
     let p = err_from_is_err_and c.from_residual.result c.from_residual.ensures.1 in
     rw (p.1, p.2) (stops-before (λ s. HasManyBranches s) (λ s many. inl many) (g.C.Conditions.sets c.args.conds.now).arities (seen_space c.args.space.now) c.args.file.now (g.S.Source.holds c.args.src.now) _ _ c.requires.arities c.in_err-prepared.field-0.0
-    c.in_err-prepared.ensures.stops c.in_err-prepared.ensures.footprints)
+    c.in_err-prepared.ensures.stops (λ outside held.
+    files-stop c.requires.listed c.requires.arities outside c.args.file.now (seen_space c.args.space.now).branches c.in_err-prepared.field-0.0 (c.in_err-prepared.ensures.footprints outside held)))
 
 pub returns-in_err-parsed-clause-stops : goal.returns-in_err-parsed-clause-stops
 returns-in_err-parsed-clause-stops g c =
@@ -48,7 +51,8 @@ returns-in_err-parsed-clause-stops g c =
     let p = err_from_is_err_and c.from_residual-in_err-parsed.result c.from_residual-in_err-parsed.ensures.1 in
     rw (p.1, p.2) (stops-in s names files prepared tables c.args.space.now.standard are shown space refl main (g.S.Source.holds c.args.src.now) _ _ arities
     (λ outside holds. file-input s names files prepared tables c.args.space.now.standard are shown space main outside arities
-    (λ config listed. ordinary-told made.ordinary outside holds config (subst (λ ns. IsConfig ns config) made.keeps.arities listed))
+    (λ config listed. ordinary-told made.ordinary outside holds config (formed-before c.requires.listed c.requires.arities made.keeps made.ordinary made.live config listed) (has-listed c.requires.listed c.requires.arities config listed))
+    (prepared-listed c.requires.listed c.requires.arities made.keeps made.ordinary made.live)
     (λ bytes held config listed live. ends-told made.ordinary outside holds bytes config held (subst (λ ns. IsConfig ns config) made.keeps.arities listed) live))
     c.in_err-parsed.field-0.0 (c.in_err-parsed.ensures.stops files (listed_input s names files prepared tables c.args.space.now.standard are shown) (is-listed-input s names files prepared tables c.args.space.now.standard are shown c.new-trees.result)))
 
@@ -74,13 +78,15 @@ returns-clause-shown g c =
     let parse = c.in_ok-parsed.ensures.parse files (input s names files prepared tables c.args.space.now.standard are shown) is in
     let schedule = c.in_ok-parsed.ensures.schedule files (input s names files prepared tables c.args.space.now.standard are shown) is in
     let items = c.in_ok-append.ensures.items in
+    let space = seen_space c.args.space.now in
     record {
       leaves = parsed-leaves shown (subst (λ (old : List Line). AddsLeaves prepared.list old c.parse.new.trees) c.new-trees.ensures c.in_ok-parsed.ensures.leaves);
       branches = c.parse.ensures.owns;
       root = c.in_ok-parsed.ensures.own.root;
       faults = subst (All (IsShowableFault new files)) (sym items) (parsed-faults shown c.parse.ensures.keeps c.in_ok-parsed.ensures.own made.end_held);
-      apart = subst (AreApart new) (sym items) (parsed-apart s new c.parse.ensures.keeps names files prepared tables c.args.space.now.standard are shown made.owns c.parse.new.trees parsed parsed.events.items parse schedule
-          (λ config listed. made.live config (subst (λ ns. IsConfig ns config) made.keeps.arities listed)));
+      apart = subst (AreApart new) (sym items) (parsed-apart s new c.parse.ensures.keeps names files prepared tables c.args.space.now.standard are shown made.owns c.parse.new.trees parsed parsed.events.items parse schedule (IsListed space)
+          (formed-now c.requires.listed c.requires.arities made.keeps made.ordinary made.live) (prepared-live c.requires.listed c.requires.arities made.keeps made.ordinary made.live)
+          (prepared-listed c.requires.listed c.requires.arities made.keeps made.ordinary made.live));
       paths = shown.paths;
     }
 
@@ -102,7 +108,8 @@ returns-clause-translated g c =
     let space = seen_space c.args.space.now in
     let main = c.args.file.now in
     let arities = made.keeps.arities ∙ c.requires.arities in
-    let ordinary = λ (config : List ℕ) (listed : IsConfig s.arities config). made.ordinary.ordinary config (subst (λ ns. IsConfig ns config) made.keeps.arities listed) in
+    let ordinary = prepared-ordinary c.requires.listed c.requires.arities made.keeps made.ordinary made.live in
+    let listed_of = prepared-listed c.requires.listed c.requires.arities made.keeps made.ordinary made.live in
     let ends = λ (bytes : List ℕ) (held : made.ordinary.outside main ≡ Some bytes) (config : List ℕ) (listed : IsConfig s.arities config) (live : s.has prepared.live.0 config ≡ true).
     made.ordinary.ends bytes config held (subst (λ ns. IsConfig ns config) made.keeps.arities listed) live in
     subst (λ faults. AreTranslated (g.S.Source.holds c.args.src.now) space main (tables_with new c.parse.new.trees names files) parsed.root faults parsed.classes) (sym c.in_ok-append.ensures.items)
@@ -113,10 +120,12 @@ returns-clause-translated g c =
       held = made.ordinary.held;
       each = translated-at s new c.parse.ensures.keeps names files prepared tables c.args.space.now.standard are shown made.owns c.parse.new.trees parsed parsed.events.items parse schedule space main made.ordinary.outside
           arities ordinary ends;
+      others = others-after s new c.parse.ensures.keeps names files prepared tables c.args.space.now.standard are shown made.owns c.parse.new.trees parsed parsed.events.items parse schedule space main made.ordinary.outside
+          arities ordinary ends (prepared-others c.requires.listed c.requires.arities made.keeps made.ordinary made.live);
       classes = record {
         c11 = c11-is c.args.space.now.standard are;
         input = listed_input s names files prepared tables c.args.space.now.standard are shown;
-        is_input = file-input s names files prepared tables c.args.space.now.standard are shown space main made.ordinary.outside arities ordinary ends;
+        is_input = file-input s names files prepared tables c.args.space.now.standard are shown space main made.ordinary.outside arities ordinary listed_of ends;
         most_are = (c.in_ok-parsed.ensures.parse files (listed_input s names files prepared tables c.args.space.now.standard are shown) (is-listed-input s names files prepared tables c.args.space.now.standard are shown c.new-trees.result)).classes;
       };
       few = c.in_ok-parsed.ensures.few;
@@ -138,9 +147,10 @@ returns-clause-answered g c =
     let parse = c.in_ok-parsed.ensures.parse files (input s names files prepared tables c.args.space.now.standard are shown) is in
     let schedule = c.in_ok-parsed.ensures.schedule files (input s names files prepared tables c.args.space.now.standard are shown) is in
     let lines = c.parse.new.trees in
-    subst (HasAnswers (tables_with new lines names files) parsed.root) (sym c.in_ok-append.ensures.items)
-    (parsed-answers s new c.parse.ensures.keeps names files prepared tables c.args.space.now.standard are shown made.owns lines parsed parsed.events.items parse schedule
-    (λ config listed. made.live config (subst (λ ns. IsConfig ns config) made.keeps.arities listed)))
+    subst (HasAnswers (IsListed (seen_space c.args.space.now)) (tables_with new lines names files) parsed.root) (sym c.in_ok-append.ensures.items)
+    (parsed-answers s new c.parse.ensures.keeps names files prepared tables c.args.space.now.standard are shown made.owns lines parsed parsed.events.items parse schedule (IsListed (seen_space c.args.space.now))
+    (formed-now c.requires.listed c.requires.arities made.keeps made.ordinary made.live) (prepared-live c.requires.listed c.requires.arities made.keeps made.ordinary made.live)
+    (prepared-listed c.requires.listed c.requires.arities made.keeps made.ordinary made.live))
 
 pub returns-clause-keeps : goal.returns-clause-keeps
 returns-clause-keeps g c = Keeps-trans c.preprocess.ensures.keeps c.parse.ensures.keeps

@@ -1,5 +1,5 @@
 use Rattle.std.proofs.Common.{◌∙◌, sym, subst, refl, List, ℕ, arith}
-use Rattle.sc_core.proofs.Cuts.{only-listed, zeros-are}
+use Rattle.sc_core.proofs.Cuts.{only-formed, zeros-are}
 use Rattle.sc_core.proofs.Plains.{laid-can, none-shown, plain-none, plain-some, root-has}
 use Rattle.sc_core.proofs.tree_texts.plain.Goals as goal
 use Rattle.sc_core.specs.Cut.{first_config}
@@ -20,13 +20,13 @@ project_tree-requires-clause-config g c =
     let zeros = c.deref.ensures.value
     ∙ zeros-are c.args.space.now c.len.result c.in_ok-config.config.items (omega (arith, c.args.space.now.variables.ok.0, c.len.ensures)) (c.in_ok-config.ensures.items_if_clones_equal (λ y e. e)) in
     subst (IsConfig (g.C.Conditions.sets c.args.conds.now).arities) (sym zeros) (subst (λ ns. IsConfig ns (first_config (seen_space c.args.space.now))) (sym c.requires.arities)
-    (only-listed (seen_space c.args.space.now) c.requires.sound.has_options))
+    (only-formed (seen_space c.args.space.now) c.requires.sound.has_options))
 
 pub project_tree-requires-clause-tree : goal.project_tree-requires-clause-tree
 project_tree-requires-clause-tree g c =
     let zeros = c.deref.ensures.value
     ∙ zeros-are c.args.space.now c.len.result c.in_ok-config.config.items (omega (arith, c.args.space.now.variables.ok.0, c.len.ensures)) (c.in_ok-config.ensures.items_if_clones_equal (λ y e. e)) in
-    root-has c.args.parsed c.requires.shown c.deref.result.now (λ d listed. c.requires.one d (subst (λ ns. IsConfig ns d) c.requires.arities listed) ∙ sym zeros) c.requires.answered c.in-Some.root c.in-Some.is
+    root-has c.args.parsed c.requires.shown c.deref.result.now (λ d listed. c.requires.one d listed.formed ∙ sym zeros) c.requires.answered c.in-Some.root c.in-Some.is
 
 pub returns-clause-shown : goal.returns-clause-shown
 returns-clause-shown g c =

@@ -1,7 +1,8 @@
 use Rattle.std.proofs.Common.{◌≡◌, ◌∙◌, true, sym, subst}
 use Rattle.std.proofs.lemmas.List.Elements.{All-nil}
 use Rattle.std.proofs.lemmas.Result.{err_from_is_err_and}
-use Rattle.sc_core.proofs.Cuts.{only-listed}
+use Rattle.sc_core.proofs.Cuts.{only-formed}
+use Rattle.sc_core.proofs.Listing.{one-listed}
 use Rattle.sc_core.proofs.PlainTelling.{tells-plain}
 use Rattle.sc_core.proofs.TreeTelling.{tree-lines}
 use Rattle.sc_core.proofs.tree_texts.plain_under.Goals as goal
@@ -22,7 +23,7 @@ returns-clause-tree g c =
     let text = c.in_ok-text_of.ensures in
     let space = seen_space c.args.space.now in
     tells-plain text.keeps c.parsed.new.names c.parsed.new.files space c.in_ok-parsed.parsed c.in_ok-plain.plain c.in_ok-text_of.field-0 text.text only.shown (made.keeps.arities ∙ c.requires.arities)
-    (only-listed space c.requires.sound.has_options) c.requires.one only.plain made.answered text.none text.some (g.S.Source.holds c.args.src.now) c.args.file.now c.in_ok-parsed.parsed.classes made.translated
+    (one-listed c.requires.listed c.requires.arities (only-formed space c.requires.sound.has_options) c.requires.one c.requires.some) c.requires.one only.plain made.answered text.none text.some (g.S.Source.holds c.args.src.now) c.args.file.now c.in_ok-parsed.parsed.classes made.translated
 
 pub returns-in_err-text_of-clause-stops : goal.returns-in_err-text_of-clause-stops
 returns-in_err-text_of-clause-stops g c =

@@ -1,9 +1,11 @@
-use Rattle.std.proofs.Common.{◌≡◌, ◌∙◌, ◌≤◌, ap, arith, inl, inr, map, refl, sym, subst, List, Ok, ℕ, string_bytes}
+use Rattle.std.proofs.Common.{◌≡◌, ◌∙◌, ◌≤◌, ap, inl, map, refl, sym, subst, List, Ok, ℕ, string_bytes}
 use Rattle.std.proofs.lemmas.Result.{err_from_is_err_and}
 use Rattle.std.specs.Prelude.{not}
+use Rattle.c11_directives.specs.Listed.{IsListed}
 use Rattle.sc_args.specs.Words.{project}
 use Rattle.sc_core.proofs.Cuts.{cut-sound, first-cut, never-fills, one-config}
-use Rattle.sc_core.proofs.Failing.{choice-fails, space-fails}
+use Rattle.sc_core.proofs.Failing.{choice-fails, rose-before, space-fails}
+use Rattle.sc_core.proofs.Listing.{chosen-of, unlisted-fails}
 use Rattle.sc_core.proofs.Projecting.{projected}
 use Rattle.sc_core.proofs.Telling.{name-plain}
 use Rattle.sc_core.proofs.tree_texts.project_text.Goals as goal
@@ -11,31 +13,37 @@ use Rattle.sc_core.specs.Cut.{first_config}
 use Rattle.sc_core.specs.Ordinary.{HasManyBranches}
 use Rattle.sc_core.specs.CommandTexts.{HasNoFault, IsTranslation, Tells}
 use Rattle.sc_core.specs.Outcome.{job_of}
-use Rattle.sc_core.specs.Texts.{StopsIn, lines_of, setting_of}
+use Rattle.sc_core.specs.Texts.{FailsToList, StopsIn, lines_of, setting_of}
 use Rattle.sc_fork.specs.Parsers.{IsC11Parser}
-use Rattle.sc_model.specs.Outside.{Rose}
 use Rattle.sc_model.specs.Sets.{IsConfig}
-use Rattle.sc_model.specs.Space.{IsListed, Space, arities_of}
+use Rattle.sc_model.specs.Space.{Space, arities_of}
 use Rattle.sc_show.specs.PlainText.{IsPlainAnswer}
 use Rattle.sc_text.specs.Answer.{At}
 use Rattle.sc_text.specs.Layout.{IsTextOf}
 use Rattle.sc_space.specs.Seen.{seen_space}
 use Rattle.sc_space.specs.Sound.{IsSound}
+use Rattle.sc_space.specs.SpaceFile.{invalid}
 
 pub cut-requires : goal.cut-requires
-cut-requires g c = subst (IsListed (seen_space c.in_ok-space.space)) (sym c.deref.ensures.value) c.in_ok-config.ensures.listed
+cut-requires g c = subst (IsConfig (arities_of (seen_space c.in_ok-space.space))) (sym c.deref.ensures.value) c.in_ok-config.ensures.formed
 
 pub conditions-requires : goal.conditions-requires
 conditions-requires g c =
     let space = seen_space c.in_ok-space.space in
-    let listed = subst (IsListed space) (sym c.deref.ensures.value) c.in_ok-config.ensures.listed in
-    subst IsSound (sym c.in_ok-only.ensures) (cut-sound space c.deref.result.now listed c.in_ok-space.ensures.sound)
+    let formed = subst (IsConfig (arities_of space)) (sym c.deref.ensures.value) c.in_ok-config.ensures.formed in
+    subst IsSound (sym c.in_ok-only.ensures) (cut-sound space c.deref.result.now formed c.in_ok-space.ensures.sound)
+
+pub listed-requires-clause-sound : goal.listed-requires-clause-sound
+listed-requires-clause-sound g c =
+    let space = seen_space c.in_ok-space.space in
+    let formed = subst (IsConfig (arities_of space)) (sym c.deref.ensures.value) c.in_ok-config.ensures.formed in
+    subst IsSound (sym c.in_ok-only.ensures) (cut-sound space c.deref.result.now formed c.in_ok-space.ensures.sound)
 
 pub plain_under-requires-clause-sound : goal.plain_under-requires-clause-sound
 plain_under-requires-clause-sound g c =
     let space = seen_space c.in_ok-space.space in
-    let listed = subst (IsListed space) (sym c.deref.ensures.value) c.in_ok-config.ensures.listed in
-    subst IsSound (sym c.in_ok-only.ensures) (cut-sound space c.deref.result.now listed c.in_ok-space.ensures.sound)
+    let formed = subst (IsConfig (arities_of space)) (sym c.deref.ensures.value) c.in_ok-config.ensures.formed in
+    subst IsSound (sym c.in_ok-only.ensures) (cut-sound space c.deref.result.now formed c.in_ok-space.ensures.sound)
 
 pub plain_under-requires-clause-plain : goal.plain_under-requires-clause-plain
 plain_under-requires-clause-plain g c = name-plain c.args.file.now c.requires
@@ -43,8 +51,8 @@ plain_under-requires-clause-plain g c = name-plain c.args.file.now c.requires
 pub plain_under-requires-clause-one : goal.plain_under-requires-clause-one
 plain_under-requires-clause-one g c =
     let space = seen_space c.in_ok-space.space in
-    let listed = subst (IsListed space) (sym c.deref.ensures.value) c.in_ok-config.ensures.listed in
-    subst (λ (only : Space). (d : List ℕ) → IsConfig (arities_of only) d → d ≡ first_config only) (sym c.in_ok-only.ensures) (one-config space c.deref.result.now listed)
+    let formed = subst (IsConfig (arities_of space)) (sym c.deref.ensures.value) c.in_ok-config.ensures.formed in
+    subst (λ (only : Space). (d : List ℕ) → IsConfig (arities_of only) d → d ≡ first_config only) (sym c.in_ok-only.ensures) (one-config space c.deref.result.now formed)
 
 pub returns-in_err-space-clause-error : goal.returns-in_err-space-clause-error
 returns-in_err-space-clause-error g c =
@@ -60,21 +68,34 @@ returns-in_err-config-clause-error g c =
     rw (p.1, p.2) (choice-fails (record { holds = g.S.Source.holds c.args.src.now; before = g.S.Source.faults c.args.src.now; after = g.S.Source.faults c.read_space.new.src })
     c.args.space.now c.args.file.now (map string_bytes c.args.choices.now) (seen_space c.in_ok-space.space) c.in_ok-space.ensures.space c.in_err-config.field-0.0 c.in_err-config.ensures.error)
 
+pub returns-in_err-live-clause-error : goal.returns-in_err-live-clause-error
+returns-in_err-live-clause-error g c =
+    let space = seen_space c.in_ok-space.space in
+    let config = c.deref.result.now in
+    let formed = subst (IsConfig (arities_of space)) (sym c.deref.ensures.value) c.in_ok-config.ensures.formed in
+    let p = err_from_is_err_and c.from_residual-in_err-live.result c.from_residual-in_err-live.ensures.1 in
+    rw (p.1, p.2) (unlisted-fails (record { holds = g.S.Source.holds c.args.src.now; before = g.S.Source.faults c.args.src.now; after = g.S.Source.faults c.read_space.new.src })
+    c.args.space.now c.args.file.now (map string_bytes c.args.choices.now) space config formed (c.in_ok-config.ensures.config ∙ ap (λ (d : List ℕ). Ok d) (sym c.deref.ensures.value))
+    (cut-sound space config formed c.in_ok-space.ensures.sound) c.in_ok-space.ensures.space c.in_err-live.field-0.0
+    (subst (λ (only : Space). FailsToList only invalid c.in_err-live.field-0.0) c.in_ok-only.ensures c.in_err-live.ensures.error))
+
 pub returns-in-Ok-clause-text : goal.returns-in-Ok-clause-text
 returns-in-Ok-clause-text g c =
     let space = seen_space c.in_ok-space.space in
     let config = c.deref.result.now in
-    let listed = subst (IsListed space) (sym c.deref.ensures.value) c.in_ok-config.ensures.listed in
+    let formed = subst (IsConfig (arities_of space)) (sym c.deref.ensures.value) c.in_ok-config.ensures.formed in
     let told = c.in-Ok.ensures.tree in
     let tells = told.tells in
     let answer = tells.answer in
     let is = c.in_ok-only.ensures in
-    let first = ap (λ (only : Space). first_config only) is ∙ first-cut space config listed in
+    let first = ap (λ (only : Space). first_config only) is ∙ first-cut space config formed in
     let same = subst (λ (d : List ℕ). At answer d told.result) first told.same in
     let plain = subst (λ (d : List ℕ). IsPlainAnswer answer d told.result) first told.plain in
     let text = c.in-Ok.text in
     let found = c.in_ok-space.ensures.space in
     let setting = setting_of space c.args.file.now tells.parser tells.files in
+    let live = c.in_ok-live.ensures in
+    let listed : IsListed space config = chosen-of formed is live.listed (live.keeps.arities ∙ c.in_ok-conds.ensures) live.some in
     record {
       lines = c.in-Ok.ensures.lines;
       setting = setting;
@@ -83,6 +104,7 @@ returns-in-Ok-clause-text g c =
       text = record {
         config = config;
         chosen = c.in_ok-config.ensures.config ∙ ap (λ (d : List ℕ). Ok d) (sym c.deref.ensures.value);
+        listed = listed;
         answer = answer;
         text = subst (λ (only : Space). IsTextOf only (lines_of text) answer) is tells.text_of;
         verdict = subst (λ (only : Space). Tells (not text.is_refused) (HasNoFault only answer)) is tells.verdict;
@@ -97,15 +119,11 @@ returns-clause-error g c =
     let space = seen_space c.in_ok-space.space in
     let only = seen_space c.in_ok-only.only in
     let main = c.args.file.now in
-    let listed = subst (IsListed space) (sym c.deref.ensures.value) c.in_ok-config.ensures.listed in
-    let sound = subst IsSound (sym c.in_ok-only.ensures) (cut-sound space c.deref.result.now listed c.in_ok-space.ensures.sound) in
-    let one = subst (λ (only : Space). (d : List ℕ) → IsConfig (arities_of only) d → d ≡ first_config only) (sym c.in_ok-only.ensures) (one-config space c.deref.result.now listed) in
+    let formed = subst (IsConfig (arities_of space)) (sym c.deref.ensures.value) c.in_ok-config.ensures.formed in
+    let sound = subst IsSound (sym c.in_ok-only.ensures) (cut-sound space c.deref.result.now formed c.in_ok-space.ensures.sound) in
+    let one = subst (λ (only : Space). (d : List ℕ) → IsConfig (arities_of only) d → d ≡ first_config only) (sym c.in_ok-only.ensures) (one-config space c.deref.result.now formed) in
     let many = subst (StopsIn (λ s. HasManyBranches s) (g.S.Source.holds c.read_space.new.src) _ _ only main) c.in-Err-BranchesFull.field-0-is c.in-Err-BranchesFull.ensures.stops in
     absurd (never-fills only one sound many.1.configs)
-
-rose-before : (before mid after : ℕ) → before ≤ mid → Rose mid after → Rose before after
-rose-before before mid after least (inl more) = inl (omega arith)
-rose-before before mid after least (inr full) = inr full
 
 pub returns-in-Err-ReadFault-clause-error : goal.returns-in-Err-ReadFault-clause-error
 returns-in-Err-ReadFault-clause-error g c =

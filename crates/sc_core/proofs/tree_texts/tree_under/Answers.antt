@@ -1,6 +1,7 @@
 use Rattle.std.proofs.Common.{◌≡◌, ◌∙◌, true, sym, subst}
 use Rattle.std.proofs.lemmas.List.Elements.{All-nil}
 use Rattle.std.proofs.lemmas.Result.{err_from_is_err_and}
+use Rattle.c11_directives.specs.Listed.{IsListed}
 use Rattle.sc_core.proofs.Choices.{choices-sound, rooted}
 use Rattle.sc_core.proofs.TreeTelling.{answer-told, tells-tree, tree-lines}
 use Rattle.sc_core.proofs.tree_texts.tree_under.Goals as goal
@@ -35,7 +36,7 @@ returns-clause-tree g c =
     record {
       tells = tells-tree text.keeps names files space p out text.text made.shown arities text.none text.some holds main p.classes made.translated;
       choices = subst (λ (answer : Answer tree_parts). HasSoundChoices space answer.body.parts) told (choices-sound text.keeps names files space p out text.text made.shown arities sound);
-      rooted = subst (IsRooted space) told (rooted text.keeps names files space p out text.text made.shown arities made.answered);
+      rooted = subst (IsRooted (IsListed space)) told (rooted text.keeps names files space p out text.text made.shown arities made.answered);
     }
 
 pub returns-in_err-text_of-clause-stops : goal.returns-in_err-text_of-clause-stops
