@@ -43,6 +43,9 @@ def expressions():
     for count in (10, 13, 16):
         yield f"#if with a sum of {count} variables", space_of(count, "0, 1"), "#if " + "+".join(f"V{at}" for at in range(count)) + f" > {count // 2}\nx\n#endif\n"
         yield f"#if with && of {count} variables", space_of(count, "0, 1"), "#if " + "&&".join(f"V{at}" for at in range(count)) + "\nx\n#endif\n"
+    names = [f"V{at}" for at in range(1000)]
+    for name, tests in (("&& of 1,000 variables", names), ("999 pairs of 1,000 variables", [f"!({a} && {b})" for a, b in zip(names, names[1:])])):
+        yield f"#if with {name}", space_of(1000, "0, 1"), f"#if {' && '.join(tests)}\nx\n#endif\n"
     for pairs in (12, 16):
         tests = " || ".join(f"(defined(V{at}) && defined(V{at + pairs}))" for at in range(pairs))
         yield f"#if with {pairs} pairs in the worst order", space_of(2 * pairs), f"#if {tests}\nx\n#endif\n"
@@ -126,6 +129,20 @@ def spaces():
     yield "a space of random bytes", random.Random(2).randbytes(10_000), "x\n"
 
 
+def rules():
+    two, many = space_of(2), [f"V{at}" for at in range(1000)]
+    for text in ("1 /* 1", "defined", "V0 ? 1/0 : 1", "V0 && !V0", "V0 == '", "V0 \\", "1u > -1", ""):
+        yield f"the rule {text}", f"valid = '''{text}'''\n" + two, "int x;\n"
+    for name, value in (("a number", "1"), ("two lines", '"1\\n"')):
+        yield f"a rule of {name}", f"valid = {value}\n" + two, "int x;\n"
+    for name, left, right in (("(", "(", ")"), ("!", "!", "")):
+        yield f"a rule with {name}", "valid = '" + left * DEEP + "1" + right * DEEP + "'\n" + two, "int x;\n"
+    for count in (100, 300):
+        yield f"a rule that {count} names hold", f"valid = '{' && '.join(many[:count])}'\n" + space_of(count), "int x;\n"
+        pairs = " && ".join(f"!({a} && {b})" for a, b in zip(many[:count], many[1:count]))
+        yield f"a rule that no neighbours of {count} names hold", f"valid = '{pairs}'\n" + space_of(count), "int x;\n"
+
+
 def all_files():
-    for kind in (sections, expressions, syntax, macros, choices, large, broken, spaces):
+    for kind in (sections, expressions, syntax, macros, choices, large, broken, spaces, rules):
         yield from kind()

@@ -14,3 +14,4 @@ pub mod Pieces
 pub mod Replacements
 pub mod AlikeReplacing
 pub mod DifferentReplacing
+pub mod HalfLemmas

@@ -54,7 +54,7 @@ and-some : (o : Option State) → option_and_then (λ n. Some n) o ≡ o
 and-some None = refl
 and-some (Some n) = refl
 
-run-push : (s : State) (ts : Symbols) (t : Option grammar.Symbol) → run_tokens s (ts ++ t ∷ []) ≡ read_behind t (run_tokens s ts)
+pub run-push : (s : State) (ts : Symbols) (t : Option grammar.Symbol) → run_tokens s (ts ++ t ∷ []) ≡ read_behind t (run_tokens s ts)
 run-push s [] t = and-some (read_token s t)
 run-push s (u ∷ us) t = by (read_token s u) (λ n. run-push n us t)
   where
@@ -72,7 +72,7 @@ read_at-take standard s names list i x c within is = ap (λ ts. run_tokens (want
     by true ts = ap (run_tokens (wanting [])) (map-append (symbol_at standard names) ts (x.1 ∷ [])) ∙ run-push (wanting []) (map (symbol_at standard names) ts) (symbol_at standard names x.1)
     by false ts = ap (λ us. run_tokens (wanting []) (map (symbol_at standard names) us)) (append-nil ts)
 
-few-one : (b : Bool) (x : Option State) → length (let l : List (Option State) = if b then x ∷ [] else [] in l) ≤ 1
+pub few-one : (b : Bool) (x : Option State) → length (let l : List (Option State) = if b then x ∷ [] else [] in l) ≤ 1
 few-one true x = omega arith
 few-one false x = omega arith
 

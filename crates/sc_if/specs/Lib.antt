@@ -1,5 +1,6 @@
 pub mod Decided
 pub mod Frames
+pub mod Halves
 pub mod Operands
 pub mod Parts
 pub mod Readings

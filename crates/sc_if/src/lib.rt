@@ -7,6 +7,7 @@ mod character;
 mod deciding;
 mod expression;
 mod frame;
+mod halves;
 mod integer;
 mod operand;
 mod pair;

@@ -56,7 +56,7 @@ impl Reading {
         }
     }
 
-    fn is_same(&self, other: &Reading) -> bool
+    pub(crate) fn is_same(&self, other: &Reading) -> bool
         ensures { IsTrue result ↔ (state_in self.now ≡ state_in other.now) }
     {
         same_last(self.last, other.last) && same_frames(&self.frames, &other.frames)

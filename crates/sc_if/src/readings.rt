@@ -2,12 +2,14 @@
 ghost use Rattle.std.specs.Prelude.{◌≡◌, ℕ, ◌<◌, ◌++◌, ◌∷◌, ◌&&◌, [], List, All, length, slice_index_or, IfOk, IfErr, IfNone, IfSome, OnOk, None, Option, Some, option_map};
 ghost use Rattle.c11_expressions.specs.Symbols.{symbol_of};
 ghost use Rattle.sc_base.specs.Seen.{IsHeld, text_at};
+ghost use Rattle.sc_if.specs.Halves.{line_of, seen_line};
 ghost use Rattle.sc_if.specs.Parts.{RefusesAt};
 ghost use Rattle.sc_if.specs.Readings.{AreMoved, ArePartedBy, AreReadings, HaveRead, IsPut, IsWithin, all_of, seen_reading, state_in};
 ghost use Rattle.sc_if.specs.Symbols.{seen_symbol};
 ghost use Rattle.sc_model.specs.Sets.{Denotes, Sets, IsCond, IsNever, Keeps};
 ghost use Rattle.sc_model.specs.declared.standard.Standard.{Standard};
 
+use crate::halves::read_halves;
 use crate::reading::{Reading, is_same_reading};
 use crate::symbol::{Symbol, symbol_of};
 use sc_base::{Cond, Names, OutOfMemory, Stop, Token};
@@ -16,18 +18,49 @@ use sc_model::Standard;
 use sc_presence::Conditions;
 use std::alloc::Global;
 
+/// So many elements are read from left to right.
+const SHORT: usize = 64;
+
 /// What was read by condition, behind an element of a line.
 #[derive(Drop)]
-struct Readings {
+pub(crate) struct Readings {
     /// Of those that lack the element, and of those that can't go on.
-    left: Vec<(Cond, Option<Reading>)>,
+    pub(crate) left: Vec<(Cond, Option<Reading>)>,
     /// Of those that have it.
-    moved: Vec<(Cond, Option<Reading>)>,
+    pub(crate) moved: Vec<(Cond, Option<Reading>)>,
 }
 
 /// Reads a line under a condition: what was read for each of its configurations, or nothing where
 /// its tokens are the beginning of no expression.
 pub(crate) fn read_line<C: Conditions>(
+    alloc: Global,
+    conds: &mut C,
+    names: &Names,
+    list: &Guarded<Token>,
+    live: Cond,
+    limit: usize,
+    standard: Standard,
+) -> Result<Vec<(Cond, Option<Reading>)>, Stop>
+    requires own { All (λ item. IsCond (C.sets conds.old) item.0.0) list.now }
+    requires held { All (λ item. IsHeld names.now item.1) list.now }
+    requires live_own { IsCond (C.sets conds.old) live.0 }
+    ensures read { IfOk result (λ readings. AreReadings standard (C.sets conds.old) (C.sets conds.new) names.now list.now live.0 readings.items) }
+    ensures refused { IfErr result (RefusesAt standard (C.sets conds.old) names.now list.now ((C.sets conds.old).has live.0) limit) }
+
+    // at every outcome
+    ensures keeps { Keeps (C.sets conds.old) (C.sets conds.new) }
+{
+    if list.len() > SHORT {
+        let line = symbols(alloc, names, list, standard)?;
+        if let Some(readings) = read_halves(alloc, conds, &line, live)? {
+            return Ok(readings);
+        }
+    }
+    read_through(alloc, conds, names, list, live, limit, standard)
+}
+
+/// The same from left to right.
+fn read_through<C: Conditions>(
     alloc: Global,
     conds: &mut C,
     names: &Names,
@@ -60,6 +93,24 @@ pub(crate) fn read_line<C: Conditions>(
     Ok(readings)
 }
 
+/// The conditions of a line, and what each token is in an expression.
+fn symbols(
+    alloc: Global,
+    names: &Names,
+    list: &Guarded<Token>,
+    standard: Standard,
+) -> Result<Vec<(Cond, Option<Symbol>)>, OutOfMemory>
+    requires { All (λ item. IsHeld names.now item.1) list.now }
+    ensures { IfOk result (λ line. seen_line line.items ≡ line_of standard names.now list.now) }
+{
+    let mut line = Vec::new(alloc);
+    for index in 0..list.len() {
+        let (item, token) = list.item(index);
+        line.push((item, symbol_at(token, names, standard)))?;
+    }
+    Ok(line)
+}
+
 /// What a token is in an expression.
 fn symbol_at(token: &Token, names: &Names, standard: Standard) -> Option<Symbol>
     requires { IsHeld names.now token.now }
@@ -69,7 +120,7 @@ fn symbol_at(token: &Token, names: &Names, standard: Standard) -> Option<Symbol>
 }
 
 /// What was read before any element.
-fn unread<C: Conditions>(
+pub(crate) fn unread<C: Conditions>(
     alloc: Global,
     conds: &C,
     live: Cond,
@@ -86,7 +137,7 @@ fn unread<C: Conditions>(
 }
 
 /// What was read once those that have an element have read its symbol.
-fn advance<C: Conditions>(
+pub(crate) fn advance<C: Conditions>(
     alloc: Global,
     conds: &mut C,
     readings: Vec<(Cond, Option<Reading>)>,
@@ -219,7 +270,7 @@ impl Readings {
 }
 
 /// Adds configurations to those that have read the same.
-fn put<C: Conditions>(
+pub(crate) fn put<C: Conditions>(
     conds: &mut C,
     readings: &mut Vec<(Cond, Option<Reading>)>,
     cond: Cond,

@@ -1,78 +1,58 @@
-use Rattle.std.proofs.Common.{◌+◌, List, take, refl, sym, subst, arith}
-use Rattle.std.proofs.lemmas.Option.{get_or_from_slice_get}
+use Rattle.std.proofs.Common.{◌≡◌, [], ◌∙◌, All, List, Option, Vec, Global, ap, subst, sym}
+use Rattle.std.specs.Prelude.{IfSome}
+use Rattle.c11_expressions.proofs.Reader.{wanting}
 use Rattle.sc_base.specs.declared.id.Cond.{Cond}
-use Rattle.sc_base.specs.declared.token.Token.{Token}
-use Rattle.sc_base.specs.Seen.{IsHeld}
+use Rattle.sc_if.proofs.HalfLemmas.{Element, err-weaker, line-conditions, line-read, ok-weaker, readings-before}
+use Rattle.sc_if.proofs.LineAnswers.{refuses-before}
 use Rattle.sc_if.proofs.PutLemmas.{Entry}
-use Rattle.sc_if.proofs.ReadingLemmas.{many-parts, read-all, read-more}
-use Rattle.sc_if.specs.Readings.{AreReadings}
+use Rattle.sc_if.specs.Halves.{AreReadFrom, line_of, seen_line}
 use Rattle.sc_model.proofs.SetLemmas.{Keeps-refl, Keeps-trans}
-use Rattle.sc_model.specs.Sets.{IsCond}
+use Rattle.sc_model.specs.Sets.{IsCond, Keeps}
+use Rattle.sc_if.proofs.readings.read_line.Goals.{then-len-gt-SHORT+in_ok-line+in_ok-readings+in_default, else-len-gt-SHORT}
 use Rattle.sc_if.proofs.readings.read_line.Goals as goal
 
-pub loop-index-init : goal.loop-index-init
-loop-index-init g c = record {
-  keeps = Keeps-refl (g.C.Conditions.sets c.args.conds.now);
-  read = c.in_ok-readings.ensures c.args.standard c.args.names.now;
-}
-
-pub symbol_at-symbol-requires : goal.symbol_at-symbol-requires
-symbol_at-symbol-requires g c =
-    let list = c.args.list.now in
-    let i = c.loop-index.index in
-    let x : Cond × Token = (c.item.result.0, c.item.result.1.now) in
-    let Held : Cond × Token → Type 0 = λ y. IsHeld c.args.names.now y.1 in
-    subst Held (get_or_from_slice_get list i x x c.item.ensures) (c.requires.held i x (omega (arith, c.loop-index-test.true, c.len-index-end.ensures)))
-
-pub returns-then-len-limit-clause-keeps : goal.returns-then-len-limit-clause-keeps
-returns-then-len-limit-clause-keeps g c = Keeps-trans c.loop-index.invariant.keeps c.advance.ensures.keeps
-
-pub returns-in_err-append-clause-keeps : goal.returns-in_err-append-clause-keeps
-returns-in_err-append-clause-keeps g c = Keeps-trans c.loop-index.invariant.keeps c.advance.ensures.keeps
-
-pub advance-requires : goal.advance-requires
-advance-requires g c =
+pub read_halves-requires-clause-own : goal.read_halves-requires-clause-own
+read_halves-requires-clause-own g c =
     let s = g.C.Conditions.sets c.args.conds.now in
-    let was = c.loop-index.invariant in
-    let x : Cond × Token = (c.item.result.0, c.item.result.1.now) in
-    let Own : Cond × Token → Type 0 = λ y. IsCond s y.0.0 in
-    let own = subst Own (get_or_from_slice_get c.args.list.now c.loop-index.index x x c.item.ensures) (c.requires.own c.loop-index.index x (omega (arith, c.loop-index-test.true, c.len-index-end.ensures))) in
-    record { own = was.read.own; item_own = was.keeps.own _ own }
+    subst (All (λ (x : Element). IsCond s x.0.0)) (sym {A = List Element} c.deref.ensures.value)
+    (line-conditions c.args.standard c.args.names.now c.args.list.now c.in_ok-line.line.items c.in_ok-line.ensures (λ x. IsCond s x.0) c.requires.own)
 
-pub returns-in_err-next-clause-keeps : goal.returns-in_err-next-clause-keeps
-returns-in_err-next-clause-keeps g c = Keeps-trans c.loop-index.invariant.keeps c.advance.ensures.keeps
-
-pub loop-index-preserved : goal.loop-index-preserved
-loop-index-preserved g c =
+pub returns-in-Some-clause-read : goal.returns-in-Some-clause-read
+returns-in-Some-clause-read g c =
     let s = g.C.Conditions.sets c.args.conds.now in
-    let new = g.C.Conditions.sets c.advance.new.conds in
-    let was = c.loop-index.invariant in
-    let list = c.args.list.now in
-    let i = c.loop-index.index in
-    let x : Cond × Token = (c.item.result.0, c.item.result.1.now) in
-    let is = get_or_from_slice_get list i x x c.item.ensures in
-    let Own : Cond × Token → Type 0 = λ y. IsCond s y.0.0 in
-    let own = subst Own is (c.requires.own i x (omega (arith, c.loop-index-test.true, c.len-index-end.ensures))) in
-    let more = read-more list i x (omega (arith, c.loop-index-test.true, c.len-index-end.ensures)) (sym is) was.keeps own c.symbol_at-symbol.ensures was.read c.in_ok-next.ensures.moved in
-    record {
-      keeps = Keeps-trans was.keeps c.advance.ensures.keeps;
-      read = subst (λ (l : List Entry). AreReadings c.args.standard s new c.args.names.now (take (i + 1) list) c.args.live.0 l) (sym c.in_ok-append.ensures.items) more;
-    }
+    let new = g.C.Conditions.sets c.read_halves.new.conds in
+    let live = c.args.live.0 in
+    let read = subst (λ (o : Option (Vec Entry Global)). IfSome o (λ ends. AreReadFrom s new c.deref.result.now live (wanting []) ends.items)) c.in-Some.is c.in_ok-readings.ensures.read in
+    line-read c.args.standard c.args.names.now c.args.list.now c.in_ok-line.line.items c.in_ok-line.ensures
+    (subst (λ (l : List Element). AreReadFrom s new l live (wanting []) c.in-Some.readings.items) c.deref.ensures.value read)
 
-pub returns-then-len-limit-clause-refused : goal.returns-then-len-limit-clause-refused
-returns-then-len-limit-clause-refused g c =
+pub returns-clause-keeps : goal.returns-clause-keeps
+returns-clause-keeps g c =
     let s = g.C.Conditions.sets c.args.conds.now in
-    let was = c.loop-index.invariant in
-    let list = c.args.list.now in
-    let i = c.loop-index.index in
-    let x : Cond × Token = (c.item.result.0, c.item.result.1.now) in
-    let is = get_or_from_slice_get list i x x c.item.ensures in
-    let Own : Cond × Token → Type 0 = λ y. IsCond s y.0.0 in
-    let own = subst Own is (c.requires.own i x (omega (arith, c.loop-index-test.true, c.len-index-end.ensures))) in (
-      refl,
-      many-parts list i x (omega (arith, c.loop-index-test.true, c.len-index-end.ensures)) (sym is) was.keeps own c.symbol_at-symbol.ensures was.read c.in_ok-next.ensures.moved c.advance.ensures.keeps
-          c.has_options.ensures c.item.ensures (c.args.limit + 1) (omega arith),
-    )
+    let before : Keeps s (g.C.Conditions.sets c.if-len-gt-SHORT.conds) = elim c.if-len-gt-SHORT.branch [
+      | then-len-gt-SHORT+in_ok-line+in_ok-readings+in_default w ↦ rw (w.conds-is) w.read_halves.ensures.keeps
+      | else-len-gt-SHORT w ↦ rw (w.conds-is) (Keeps-refl s)
+    ] in
+    Keeps-trans before c.read_through.ensures.keeps
 
 pub returns-clause-read : goal.returns-clause-read
-returns-clause-read g c = read-all c.args.list.now c.loop-index.index (omega arith) c.loop-index.invariant.read
+returns-clause-read g c =
+    let s = g.C.Conditions.sets c.args.conds.now in
+    let before : Keeps s (g.C.Conditions.sets c.if-len-gt-SHORT.conds) = elim c.if-len-gt-SHORT.branch [
+      | then-len-gt-SHORT+in_ok-line+in_ok-readings+in_default w ↦ rw (w.conds-is) w.read_halves.ensures.keeps
+      | else-len-gt-SHORT w ↦ rw (w.conds-is) (Keeps-refl s)
+    ] in
+    ok-weaker c.read_through.result (λ readings read. readings-before before c.requires.own c.requires.live_own read) c.read_through.ensures.read
+
+pub returns-clause-refused : goal.returns-clause-refused
+returns-clause-refused g c =
+    let s = g.C.Conditions.sets c.args.conds.now in
+    let mid = g.C.Conditions.sets c.if-len-gt-SHORT.conds in
+    let before : Keeps s mid = elim c.if-len-gt-SHORT.branch [
+      | then-len-gt-SHORT+in_ok-line+in_ok-readings+in_default w ↦ rw (w.conds-is) w.read_halves.ensures.keeps
+      | else-len-gt-SHORT w ↦ rw (w.conds-is) (Keeps-refl s)
+    ] in
+    err-weaker c.read_through.result
+    (λ stop refused. refuses-before c.args.standard c.args.names.now c.args.list.now (s.has c.args.live.0) (mid.has c.args.live.0) c.args.limit before c.requires.own
+    (λ x listed has. sym (before.at c.args.live.0 x c.requires.live_own listed) ∙ has) stop refused)
+    c.read_through.ensures.refused

@@ -1,7 +1,7 @@
 use Rattle.std.proofs.Common.{take}
 use Rattle.sc_if.specs.Readings.{AreReadings}
 use Rattle.sc_model.specs.Sets.{Keeps}
-use Rattle.sc_if.proofs.readings.read_line.Given as goal
+use Rattle.sc_if.proofs.readings.read_through.Given as goal
 
 abbrev pub invariant-loop-index : goal.invariant-loop-index
 invariant-loop-index g l =
