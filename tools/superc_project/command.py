@@ -19,7 +19,17 @@ from .folder import Folder, Notes, Unit
 from .kconfig import KconfigError
 from .makefiles import Job, makefile, ninja
 from .overlay import write_if_new
-from .variables import VariableError, Variables, by_file, by_words, check, most, tested
+from .variables import (
+    VariableError,
+    Variables,
+    by_file,
+    by_words,
+    check,
+    joined,
+    most,
+    rules_of,
+    tested,
+)
 
 TOOL = Path(__file__).resolve().parent.parent / "superc-project"
 TOP = TOOL.parent.parent
@@ -79,7 +89,7 @@ VARIABLES: tuple[Option, ...] = (
             "action": "append",
             "default": [],
             "metavar": "FILE",
-            "help": "a TOML file with a table of variables",
+            "help": "a TOML file with a table of variables, and a rule `valid` if they have one",
         },
     ),
     (
@@ -253,18 +263,26 @@ def _units(asked: argparse.Namespace) -> dict[str, Unit]:
     return units
 
 
-def _variables(asked: argparse.Namespace, units: dict[str, Unit]) -> Variables:
+def _variables(
+    asked: argparse.Namespace, units: dict[str, Unit]
+) -> tuple[Variables, str | None]:
+    """The variables, and which of their configurations are valid, if not all are."""
     variables: Variables = {}
+    rules: list[str | None] = []
     for path in asked.variables:
-        variables.update(by_file(path))
-    variables.update(by_words(asked.variable, kconfig.read(asked.kconfig)))
+        listed, rule = by_file(path)
+        variables.update(listed)
+        rules.append(rule)
+    options = kconfig.read(asked.kconfig)
+    variables.update(by_words(asked.variable, options))
+    rules += rules_of(variables, options)
     if asked.from_source:
         counts = _tested(units)
         for name in variables:
             counts.pop(name, None)
         variables.update(most(counts, asked.from_source))
     check(variables)
-    return variables
+    return variables, joined(rules)
 
 
 def _tested(units: dict[str, Unit]) -> Counter[str]:
@@ -278,10 +296,10 @@ def _tested(units: dict[str, Unit]) -> Counter[str]:
 
 def _make_unit(asked: argparse.Namespace) -> int:
     units = _units(asked)
-    variables = _variables(asked, units)
+    variables, valid = _variables(asked, units)
     notes = Notes()
     for name, unit in units.items():
-        folder = Folder(asked.out, name, unit, variables)
+        folder = Folder(asked.out, name, unit, variables, valid)
         folder.write()
         notes.add(folder.notes())
         print(os.path.relpath(folder.path))
@@ -291,11 +309,11 @@ def _make_unit(asked: argparse.Namespace) -> int:
 
 def _make_all(asked: argparse.Namespace) -> int:
     units = _units(asked)
-    variables = _variables(asked, units)
+    variables, valid = _variables(asked, units)
     notes = Notes()
     jobs = []
     for number, (name, unit) in enumerate(units.items(), 1):
-        folder = Folder(asked.out, name, unit, variables)
+        folder = Folder(asked.out, name, unit, variables, valid)
         folder.write()
         notes.add(folder.notes())
         jobs.append(Job(name, sorted({source.path for source in unit.own_sources()})))

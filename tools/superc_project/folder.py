@@ -112,12 +112,15 @@ def _reach(quoted: tuple[str, ...], directories: tuple[str, ...]) -> Reach:
 class Folder:
     """Writes the folder of a unit, below that of the whole project."""
 
-    def __init__(self, out: str, name: str, unit: Unit, variables: Variables) -> None:
+    def __init__(
+        self, out: str, name: str, unit: Unit, variables: Variables, valid: str | None = None
+    ) -> None:
         self.top = os.path.abspath(out)
         self.path = f"{self.top}/units/{name}"
         self.name = name
         self.unit = unit
         self.variables = variables
+        self.valid = valid
         self.edition = edition_of(unit.compile.standard)
         # Copies depend on the order of the search, on the variables and on the standard.
         search = json.dumps(
@@ -173,9 +176,10 @@ class Folder:
             "]",
             f"include_depth = {DEEPEST}",
             f'standard = "{self.edition}"',
-            "",
-            "[variables]",
         ]
+        if self.valid is not None:
+            lines.append(f"valid = {json.dumps(self.valid, ensure_ascii=False)}")
+        lines += ["", "[variables]"]
         for name, options in sorted(self.variables.items()):
             written = ", ".join('"undef"' if one == "undef" else one for one in options)
             lines.append(f"{name} = [{written}]")

@@ -6,7 +6,7 @@ from collections import Counter
 from collections.abc import Iterable
 from pathlib import Path
 
-from superc_text.space import SpaceError, variables_of
+from superc_text.space import SpaceError, space_of
 
 from . import kconfig
 from .compiler import PROTECTED
@@ -46,16 +46,31 @@ def by_words(words: Iterable[str], options: dict[str, Option]) -> Variables:
     return found
 
 
-def by_file(path: str) -> Variables:
-    """The variables of a file that is written as a space file is."""
+def rules_of(variables: Variables, options: dict[str, Option]) -> list[str]:
+    """That no option of Kconfig is both built in and a module."""
+    return [
+        f"!(defined({name}) && defined({name}_MODULE))"
+        for name in variables
+        if (option := options.get(name.removeprefix("CONFIG_"))) and option.type == "tristate"
+        if f"{name}_MODULE" in variables
+    ]
+
+
+def by_file(path: str) -> tuple[Variables, str | None]:
+    """The variables of a file that is written as a space file is, and its rule."""
     try:
-        return {
-            name: list(listed) for name, listed in variables_of(Path(path).read_bytes()).items()
-        }
+        space = space_of(Path(path).read_bytes())
+        return {name: list(listed) for name, listed in space.variables.items()}, space.valid
     except OSError as fault:
         raise VariableError(f"{path}: {fault.strerror}") from None
     except SpaceError as fault:
         raise VariableError(f"{path}: {fault}") from None
+
+
+def joined(rules: Iterable[str | None]) -> str | None:
+    """The rule that all of these hold."""
+    given = [rule for rule in rules if rule is not None]
+    return given[0] if len(given) == 1 else " && ".join(f"({rule})" for rule in given) or None
 
 
 def tested(sources: Iterable[Source], defined: Iterable[str]) -> Counter[str]:

@@ -10,11 +10,12 @@ from .projection import (
     Projection,
     configuration_of,
     fault_at,
+    need_valid,
     tokens_at,
     tree_at,
 )
 from .reader import Reader, TextError
-from .space import SpaceError, variables_of
+from .space import Space, SpaceError, space_of, variables_of
 from .writer import Writer, text_at, text_of
 
 VERSION = "1.0"
@@ -39,6 +40,7 @@ __all__ = [
     "Projection",
     "Reader",
     "Root",
+    "Space",
     "SpaceError",
     "TextError",
     "VERSION",
@@ -46,6 +48,8 @@ __all__ = [
     "Writer",
     "configuration_of",
     "fault_at",
+    "need_valid",
+    "space_of",
     "text_at",
     "text_of",
     "tokens_at",

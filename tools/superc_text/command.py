@@ -20,10 +20,11 @@ from .projection import (
     Projection,
     configuration_of,
     fault_at,
+    need_valid,
     tokens_at,
 )
 from .reader import Reader, Scan, TextError
-from .space import SpaceError, Variables, variables_of
+from .space import Space, SpaceError, space_of
 from .trees import PlaceError, TreeView, document_at, parts_at, wanted
 from .views import (
     conditions_dot,
@@ -60,7 +61,10 @@ EVERYWHERE: tuple[Option, ...] = (
     ),
     (
         ("--space",),
-        {"metavar": "FILE", "help": "the space file, which names the variables of the text"},
+        {
+            "metavar": "FILE",
+            "help": "the space file: the variables of the text, and which configurations are valid",
+        },
     ),
 )
 OPTIONS: dict[str, tuple[Option, ...]] = {
@@ -179,7 +183,7 @@ def main(words: list[str] | None = None) -> int:
     asked = parser().parse_args(words)
     out = Output(sys.stdout.buffer)
     try:
-        asked.variables = _variables(asked.space)
+        asked.known = _space(asked.space)
         text: IO[bytes] = open(asked.input, "rb") if asked.input else sys.stdin.buffer
     except SpaceError as fault:
         return _stop(WRONG_TEXT, f"space: {fault}")
@@ -201,11 +205,11 @@ def main(words: list[str] | None = None) -> int:
         return _stop(UNREADABLE, str(fault.strerror))
 
 
-def _variables(space: str | None) -> Variables | None:
-    if space is None:
+def _space(path: str | None) -> Space | None:
+    if path is None:
         return None
-    with open(space, "rb") as file:
-        return variables_of(file.read())
+    with open(path, "rb") as file:
+        return space_of(file.read())
 
 
 def _stop(status: int, words: str) -> int:
@@ -240,7 +244,7 @@ def _is_tree(text: IO[bytes]) -> tuple[bool, Iterator[bytes]]:
 def _tokens(asked: argparse.Namespace, text: IO[bytes], out: Output) -> int:
     has_tree, lines = _is_tree(text)
     if has_tree:
-        _write(out, tokens_of_document(Document.read(lines, asked.variables), asked.exact))
+        _write(out, tokens_of_document(Document.read(lines, asked.known), asked.exact))
         return ACCEPTED
     with SpooledTemporaryFile(IN_MEMORY) as kept:
         # The faults come last, and the conditions are shown by what they refuse.
@@ -249,22 +253,21 @@ def _tokens(asked: argparse.Namespace, text: IO[bytes], out: Output) -> int:
             scan.add(line)
             kept.write(line)
         kept.seek(0)
-        reader = Reader(kept, asked.variables)
+        reader = Reader(kept, asked.known)
         _write(out, tokens_view(reader, scan.refused(reader), asked.exact))
     return ACCEPTED
 
 
 def _faults(asked: argparse.Namespace, text: IO[bytes], out: Output) -> int:
-    return REFUSED if _write(out, faults_view(Reader(text, asked.variables))) else ACCEPTED
+    return REFUSED if _write(out, faults_view(Reader(text, asked.known))) else ACCEPTED
 
 
 def _at(asked: argparse.Namespace, text: IO[bytes], out: Output) -> int:
     configuration = configuration_of(asked.options)
     has_tree, lines = _is_tree(text)
     if has_tree or asked.text:
-        document = Document.read(lines, asked.variables)
-        projection = Projection(document.diagrams, configuration)
-        _note(asked, projection.check())
+        document = Document.read(lines, asked.known)
+        _check(asked, document, configuration)
         fault = fault_at(document, configuration)
         if asked.text:
             out.write(text_at(document, configuration))
@@ -280,7 +283,7 @@ def _at_in_one_pass(
     """The source of a configuration. It is written when the whole text was read, since the faults
     come last.
     """
-    reader = Reader(lines, asked.variables)
+    reader = Reader(lines, asked.known)
     projection = Projection(reader.diagrams, configuration)
     faults: list[Fault] = []
 
@@ -293,7 +296,7 @@ def _at_in_one_pass(
 
     with SpooledTemporaryFile(IN_MEMORY) as kept:
         _write(kept, source(tokens(), Conditions(Diagrams())))
-        _note(asked, projection.check())
+        _check(asked, reader, configuration)
         kept.seek(0)
         if not faults:
             for piece in iter(lambda: kept.read(IN_MEMORY), b""):
@@ -301,11 +304,14 @@ def _at_in_one_pass(
     return _refusal(faults[0] if faults else None)
 
 
-def _note(asked: argparse.Namespace, names: list[str]) -> None:
-    if names and asked.variables is not None:
+def _check(asked: argparse.Namespace, text: Reader | Document, chosen: Configuration) -> None:
+    """Refuses what is no valid configuration of the space, if that is known."""
+    names = Projection(text.diagrams, chosen).check()
+    if names and asked.known is not None:
         raise ConfigurationError(f"UnknownVariable {names[0]}")
     for name in names:
         print(f"superc-view: no condition of the text depends on {name}", file=sys.stderr)
+    need_valid(text.diagrams, text.unlisted, chosen)
 
 
 def _refusal(fault: Fault | None) -> int:
@@ -317,9 +323,9 @@ def _refusal(fault: Fault | None) -> int:
 
 def _diff(asked: argparse.Namespace, text: IO[bytes], out: Output) -> int:
     sides = [_configuration(word) for word in (asked.left, asked.right)]
-    document = Document.read(text, asked.variables)
+    document = Document.read(text, asked.known)
     for side in sides:
-        _note(asked, Projection(document.diagrams, side).check())
+        _check(asked, document, side)
     faults = [fault for side in sides if (fault := fault_at(document, side))]
     for fault in faults:
         _refusal(fault)
@@ -332,13 +338,13 @@ def _configuration(word: str) -> Configuration:
 
 
 def _tree(asked: argparse.Namespace, text: IO[bytes], out: Output) -> int:
-    document = Document.read(text, asked.variables)
+    document = Document.read(text, asked.known)
     if document.kind != "tree":
         return _stop(MISUSED, "the text has no tree: superc parse prints one")
     conditions = document.conditions()
     if asked.at is not None:
         configuration = _configuration(asked.at)
-        _note(asked, Projection(document.diagrams, configuration).check())
+        _check(asked, document, configuration)
         fault = fault_at(document, configuration)
         if fault:
             return _refusal(fault)
@@ -356,12 +362,12 @@ def _tree(asked: argparse.Namespace, text: IO[bytes], out: Output) -> int:
 
 def _dot(asked: argparse.Namespace, text: IO[bytes], out: Output) -> int:
     if asked.part is None:
-        reader = Reader(text, asked.variables)
+        reader = Reader(text, asked.known)
         for _ in reader:
             pass
         _write(out, conditions_dot(reader.diagrams, reader.number_of))
         return ACCEPTED
-    document = Document.read(text, asked.variables)
+    document = Document.read(text, asked.known)
     if not 0 <= asked.part < len(document.parts):
         return _stop(MISUSED, f"the text has no part {asked.part}")
     _write(out, tree_dot(document, asked.part))
@@ -369,7 +375,7 @@ def _dot(asked: argparse.Namespace, text: IO[bytes], out: Output) -> int:
 
 
 def _html(asked: argparse.Namespace, text: IO[bytes], out: Output) -> int:
-    for piece in Page(Document.read(text, asked.variables), asked.title, asked.root).text():
+    for piece in Page(Document.read(text, asked.known), asked.title, asked.root).text():
         out.write(piece.encode("utf-8"))
     return ACCEPTED
 

@@ -9,7 +9,7 @@ from .items import Choice, Conflict, Fault, Leaf, Node, Part, Place, Root, Token
 from .joining import joined
 from .layout import Conditions
 from .reader import Reader
-from .space import Variables
+from .space import Space
 
 
 class Document:
@@ -18,6 +18,8 @@ class Document:
     def __init__(self) -> None:
         self.kind = "tokens"
         self.diagrams = Diagrams()
+        # The configurations that are not valid, where the space tells.
+        self.unlisted = NEVER
         self.files: list[str] = []
         self.tokens: list[Token] = []
         self.parts: list[Part] = []
@@ -27,16 +29,17 @@ class Document:
         self.number_of: dict[int, int] = {}
 
     @classmethod
-    def read(cls, lines: Iterable[bytes], variables: Variables | None = None) -> Document:
-        """The text that has these lines. Where variables are given, it names no others."""
-        document, reader = cls(), Reader(lines, variables)
+    def read(cls, lines: Iterable[bytes], space: Space | None = None) -> Document:
+        """The text that has these lines. Where the space is given, it names no other variables."""
+        document, reader = cls(), Reader(lines, space)
         for item in reader:
             document._add(item)
         document.kind = reader.kind or "tokens"
-        document.diagrams, document.files, document.number_of = (
+        document.diagrams, document.files, document.number_of, document.unlisted = (
             reader.diagrams,
             reader.files,
             reader.number_of,
+            reader.unlisted,
         )
         return document
 
@@ -61,9 +64,12 @@ class Document:
         return refused
 
     def conditions(self, is_exact: bool = False) -> Conditions:
-        """How conditions are shown, where refused configurations may have them or not."""
-        refused = NEVER if is_exact else self.refused()
-        return Conditions(self.diagrams, self.number_of, refused)
+        """How conditions are shown, where configurations that are refused or not valid may have
+        them or not.
+        """
+        if is_exact:
+            return Conditions(self.diagrams, self.number_of)
+        return Conditions(self.diagrams, self.number_of, self.refused(), self.unlisted)
 
     @cached_property
     def sizes(self) -> list[int]:

@@ -124,19 +124,26 @@ def would_join(left: bytes, right: bytes) -> bool:
 
 
 class Conditions:
-    """Conditions as they are shown: refused configurations may have them or not."""
+    """Conditions as they are shown: configurations that are refused or not valid may have them or
+    not.
+    """
 
     def __init__(
-        self, diagrams: Diagrams, number_of: Mapping[int, int] | None = None, refused: int = NEVER
+        self,
+        diagrams: Diagrams,
+        number_of: Mapping[int, int] | None = None,
+        refused: int = NEVER,
+        unlisted: int = NEVER,
     ) -> None:
         self.diagrams = diagrams
-        self.refused = refused
-        self.accepted = diagrams.negation(refused)
+        self.unlisted = unlisted
+        self.refused = diagrams.disjunction(refused, unlisted)
+        self.accepted = diagrams.negation(self.refused)
         self._expressions = Expressions(diagrams, number_of)
         self._inside: dict[tuple[int, int], bool] = {}
 
     def live(self, condition: int) -> int:
-        """The configurations of a condition that are not refused."""
+        """The configurations of a condition that are valid and not refused."""
         return self.diagrams.difference(condition, self.refused)
 
     def is_inside(self, inner: int, outer: int) -> bool:
@@ -155,8 +162,8 @@ class Conditions:
         return self._expressions.text(condition, free)
 
     def exact(self, condition: int) -> str:
-        """The expression of a condition itself."""
-        return self._expressions.text(condition)
+        """The expression of a condition itself, which may have what is not valid or not."""
+        return self._expressions.text(condition, self.unlisted)
 
 
 def source(tokens: Iterable[Token], conditions: Conditions) -> Iterator[str]:
@@ -267,6 +274,7 @@ class _Nest:
 
 def fault_text(fault: Fault, text_of: Callable[[int], str]) -> str:
     """A fault as compilers write it, with its sentence."""
-    when = "" if fault.condition == ALWAYS else f" [when {text_of(fault.condition)}]"
+    text = text_of(fault.condition)
+    when = "" if text == str(ALWAYS) else f" [when {text}]"
     place = f"{fault.place.file}:{fault.place.line}:{fault.place.column}"
     return f"{place}: error: {fault.name}: {SENTENCES[fault.name]}{when}"

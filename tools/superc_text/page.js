@@ -1,6 +1,6 @@
 "use strict";
 const data = JSON.parse(document.getElementById("data").textContent);
-const { nodes, variables, expressions, faults, expansions, tree } = data;
+const { nodes, variables, expressions, valid, faults, expansions, tree } = data;
 const form = document.querySelector("form");
 const lines = document.getElementById("lines");
 const told = document.getElementById("told");
@@ -37,7 +37,7 @@ function show() {
   const refusal = faults.find(([condition]) => all[condition]);
   const isOpen = faults.some(([condition]) => some[condition]);
   const verdict = refusal ? "Refused: " + refusal[1] : isOpen ? "Refused in part" : "Accepted";
-  document.getElementById("verdict").textContent = verdict;
+  document.getElementById("verdict").textContent = some[valid] ? verdict : "Not valid";
 }
 
 // ---- the address: the chosen line and the chosen options, as #L31;CONFIG_SMP=1

@@ -48,7 +48,8 @@ class Page:
         example_of = {live: condition for live, condition in self._lines.shown if live != accepted}
         self._shown = list(example_of.values())
         faults = [fault.condition for fault in self._document.faults if fault.condition > ALWAYS]
-        self._nodes = self._diagrams.reachable([*self._shown, *faults])
+        self._valid = self._diagrams.negation(self._document.unlisted)
+        self._nodes = self._diagrams.reachable([*self._shown, *faults, self._valid])
         self._numbers = {NEVER: 0, ALWAYS: 1} | {
             node: number for number, node in enumerate(self._nodes, 2)
         }
@@ -125,11 +126,8 @@ class Page:
         yield "</ul>\n</details>\n"
 
     def _fault(self, fault: Fault) -> str:
-        when = (
-            ""
-            if fault.condition == ALWAYS
-            else f" [when {self._conditions.exact(fault.condition)}]"
-        )
+        text = self._conditions.exact(fault.condition)
+        when = "" if text == str(ALWAYS) else f" [when {text}]"
         return f"{plain_place(fault.place)}: {fault.name}{when}"
 
     def _fault_line(self, number: int, fault: Fault) -> str:
@@ -153,6 +151,7 @@ class Page:
                 self._numbers[condition]: self._conditions.text(condition)
                 for condition in self._shown
             },
+            "valid": self._numbers[self._valid],
             "faults": [
                 [self._numbers[fault.condition], self._fault(fault)]
                 for fault in self._document.faults

@@ -55,6 +55,12 @@ class Projection:
         return [name for name in self._configuration if name not in variables]
 
 
+def need_valid(diagrams: Diagrams, unlisted: int, configuration: Configuration) -> None:
+    """Refuses a configuration that is not valid."""
+    if Projection(diagrams, configuration).has(unlisted):
+        raise ConfigurationError("Invalid")
+
+
 def fault_at(document: Document, configuration: Configuration) -> Fault | None:
     """The fault for which a configuration is refused."""
     projection = Projection(document.diagrams, configuration)

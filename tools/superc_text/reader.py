@@ -10,9 +10,10 @@ from array import array
 from collections.abc import Callable, Iterable, Iterator
 
 from .diagrams import ALWAYS, NEVER, Diagrams
+from .evaluation import listed
 from .grammar import productions
 from .items import CAUSES, Choice, Conflict, Fault, Item, Leaf, Node, Place, Root, Token
-from .space import Variables, is_text
+from .space import Space, is_text
 
 NUMBER = rb"(0|[1-9][0-9]{0,18})"
 COUNT = rb"([1-9][0-9]{0,18})"
@@ -56,16 +57,18 @@ class _Wrong(Exception):
 
 
 class Reader:
-    """Reads lines, and gives their items one by one. Where the variables of the space are known,
-    a text names no others.
+    """Reads lines, and gives their items one by one. Where the space is known, a text names no
+    other variables, and `unlisted` are the configurations that are not valid.
     """
 
-    def __init__(self, lines: Iterable[bytes], variables: Variables | None = None) -> None:
+    def __init__(self, lines: Iterable[bytes], space: Space | None = None) -> None:
         self._lines = lines
-        self.has_space = variables is not None
+        self.has_space = space is not None
         self.line = 0
         self.diagrams = Diagrams()
-        self.diagrams.variables.update(variables or {})
+        self.diagrams.variables.update(space.variables if space else {})
+        self._listed = listed(self.diagrams, space) if space else None
+        self.unlisted = NEVER if self._listed is None else self.diagrams.negation(self._listed)
         self.conditions: list[int] = [NEVER, ALWAYS]
         self.number_of: dict[int, int] = {NEVER: NEVER, ALWAYS: ALWAYS}
         self.files: list[str] = []
@@ -362,10 +365,18 @@ class Reader:
         if self.kind == "tree":
             _need(self._has_root, "a tree has a root")
             _need(
-                self._is_rootless == (self._refused == ALWAYS),
+                self._is_rootless == self._refuses_all(),
                 "there is no root exactly where every configuration is refused",
             )
         self.is_ended = True
+
+    def _refuses_all(self) -> bool:
+        """Whether each valid configuration is refused. Where it is not known which are valid, a
+        text without a root is believed that has a fault.
+        """
+        if self._listed is None and self._is_rootless:
+            return self._refused != NEVER
+        return self.diagrams.disjunction(self._refused, self.unlisted) == ALWAYS
 
 
 class Scan:

@@ -1,25 +1,44 @@
-"""The variables of a space file."""
+"""What texts need of a space file: its variables, and which configurations are valid."""
 
 from __future__ import annotations
 
 import tomllib
+from typing import NamedTuple
 
 Variables = dict[str, tuple[str, ...]]
 
 
 class SpaceError(Exception):
-    """A space file that names no variables with their options."""
+    """A space file that names no variables with their options, or whose rule is no text."""
+
+
+class Space(NamedTuple):
+    """The variables with their options, and the text that says which configurations are valid, if
+    not all are.
+    """
+
+    variables: Variables
+    valid: str | None = None
+
+
+def space_of(space: bytes) -> Space:
+    """The space of a file."""
+    try:
+        table = tomllib.loads(space.decode("utf-8"))
+    except ValueError:
+        raise SpaceError("NotToml") from None
+    variables, valid = table.get("variables"), table.get("valid")
+    if not isinstance(variables, dict):
+        raise SpaceError("NoVariables")
+    named = {name: _options(name, variables[name]) for name in sorted(variables)}
+    if valid is not None and not (isinstance(valid, str) and min(valid, default=" ") >= " "):
+        raise SpaceError("BadValid BadIf")
+    return Space(named, valid)
 
 
 def variables_of(space: bytes) -> Variables:
     """The variables of a space file with their options as they stand in texts."""
-    try:
-        table = tomllib.loads(space.decode("utf-8")).get("variables")
-    except ValueError:
-        raise SpaceError("NotToml") from None
-    if not isinstance(table, dict):
-        raise SpaceError("NoVariables")
-    return {name: _options(name, table[name]) for name in sorted(table)}
+    return space_of(space).variables
 
 
 def _options(name: str, options: object) -> tuple[str, ...]:

@@ -6,7 +6,6 @@ from difflib import unified_diff
 
 from .diagrams import ALWAYS, NEVER, Diagrams
 from .document import Document, branches_of
-from .expressions import Expressions
 from .items import Choice, Fault, Leaf, Node, Token
 from .layout import Conditions, fault_text, shown, source
 from .projection import Configuration, tokens_at
@@ -27,7 +26,8 @@ def tokens_view(reader: Reader, refused: int, is_exact: bool = False) -> Iterato
             elif isinstance(item, Fault):
                 faults.append(item)
 
-    conditions = Conditions(reader.diagrams, reader.number_of, NEVER if is_exact else refused)
+    free = (NEVER, NEVER) if is_exact else (refused, reader.unlisted)
+    conditions = Conditions(reader.diagrams, reader.number_of, *free)
     yield from source(tokens(), conditions)
     yield from _errors(faults, conditions)
 
@@ -49,7 +49,7 @@ def _errors(faults: Iterable[Fault], conditions: Conditions) -> Iterator[str]:
 
 def faults_view(reader: Reader) -> Iterator[str]:
     """Each fault on a line, as compilers write it."""
-    text_of = Expressions(reader.diagrams, reader.number_of).text
+    text_of = Conditions(reader.diagrams, reader.number_of, unlisted=reader.unlisted).exact
     for item in reader:
         if isinstance(item, Fault):
             yield fault_text(item, text_of)
@@ -82,7 +82,7 @@ def conditions_dot(diagrams: Diagrams, number_of: dict[int, int]) -> Iterator[st
 
 def tree_dot(document: Document, top: int) -> Iterator[str]:
     """A part of the tree with all below it as a graph for Graphviz."""
-    text_of = Expressions(document.diagrams, document.number_of).text
+    text_of = document.conditions().exact
     yield "digraph tree {"
     seen = {top}
     waiting = [top]

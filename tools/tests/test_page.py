@@ -151,7 +151,7 @@ class Source(unittest.TestCase):
     """A page of the files as they stand."""
 
     def page(self) -> str:
-        return source_page((DATA / "ring.tree").read_bytes(), TOP)
+        return source_page((DATA / "ring_all.tree").read_bytes(), TOP)
 
     def test_the_files_stand_as_they_are(self) -> None:
         text = self.page()
@@ -167,7 +167,7 @@ class Source(unittest.TestCase):
         )
 
     def test_files_elsewhere_are_named(self) -> None:
-        text = source_page((DATA / "ring.tree").read_bytes(), TOP / "examples/ring/include")
+        text = source_page((DATA / "ring_all.tree").read_bytes(), TOP / "examples/ring/include")
         self.assertIn("<summary>Outside (3)</summary>", text)
 
     def test_copies_have_the_lines_of_their_files(self) -> None:
@@ -211,9 +211,10 @@ class Source(unittest.TestCase):
             ("elif", "(N == 2) * 3 - 1 >= A + 1"): "N==2",
             ("if", " B"): None,
             ("if", " defined(B)"): None,
-            ("if", " N % 2"): None,
+            ("if", " N % 2 ? A : 0"): "defined(A) && N==1",
             ("if", " N >"): None,
-            ("if", " 010"): None,
+            ("if", " N / A"): None,
+            ("if", " N == 020"): "N==16",
         }
         for (word, rest), want in rows.items():
             taken = heads.taken(word, rest)
@@ -268,7 +269,7 @@ class Browser(unittest.TestCase):
         )
 
     def test_a_page_of_source(self) -> None:
-        whole = source_page((DATA / "ring.tree").read_bytes(), TOP)
+        whole = source_page((DATA / "ring_all.tree").read_bytes(), TOP)
         found = run_in_browser(whole, SOURCE_SCRIPT, "#L31;CONFIG_SMP=1;CONFIG_RING_ORDER=8")
         fault = "examples/ring/ring.h:7:1: ErrorDirective [when CONFIG_RING_ORDER==2 && defined(CONFIG_SMP)]"
         locks = ["spin_lock(&ring->lock)", "( ( void ) (         &ring->lock ) )", ";"]

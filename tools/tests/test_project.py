@@ -21,7 +21,7 @@ from superc_project.overlay import Overlay
 from superc_project.reach import BESIDE, Found, Reach, Search
 from superc_project.settings import settings_of
 from superc_project.sources import asked_of, read
-from superc_project.variables import VariableError, by_words, check, most, tested
+from superc_project.variables import VariableError, by_words, check, most, rules_of, tested
 from superc_project.variadics import rewritten
 
 TOOLS = Path(__file__).resolve().parent.parent
@@ -341,6 +341,8 @@ source "more"
             "CONFIG_N": ["2", "64"],
         }
         self.assertEqual(by_words(["A", "CONFIG_T", "N"], options), want)
+        rule = "!(defined(CONFIG_T) && defined(CONFIG_T_MODULE))"
+        self.assertEqual(rules_of(want, options), [rule])
         for word in ("S", "ABSENT"):
             with self.assertRaises((VariableError, kconfig.KconfigError)):
                 by_words([word], options)
@@ -454,6 +456,17 @@ class Whole(unittest.TestCase):
             self.assertEqual((done.returncode, done.stdout), (0, "superc-out/units/m.c\n"))
             space = Path(self.folder, "superc-out/units/m.c/space.toml")
             self.assertEqual(tomllib.loads(space.read_text())["standard"], wanted)
+
+    def test_the_rule_of_a_space(self) -> None:
+        for name, rule in ("a", "A"), ("b", "!B || A"):
+            table = f"valid = '{rule}'\n[variables]\n{name.upper()} = ['undef', 1]\n"
+            Path(self.folder, f"{name}.toml").write_text(table)
+        words = ["--variables", "a.toml", "--variables", "b.toml"]
+        for count, wanted in (2, "A"), (4, "(A) && (!B || A)"):
+            done = self.run_tool("unit", *words[:count], "--", "gcc", "-c", "m.c")
+            self.assertEqual((done.returncode, done.stdout), (0, "superc-out/units/m.c\n"))
+            space = Path(self.folder, "superc-out/units/m.c/space.toml")
+            self.assertEqual(tomllib.loads(space.read_text())["valid"], wanted)
 
     def test_all_units(self) -> None:
         done = self.run_tool("all", "--superc", "./superc", "--variable", "A", "-j", "1")
