@@ -17,3 +17,8 @@ states_of entries = map (λ (entry : Entry). entry.state) entries
 
 abbrev pub values_of : List Entry → List (Option TreeId)
 values_of entries = map (λ (entry : Entry). entry.value) entries
+
+-- the stack with another state on top
+abbrev pub with_state : ℕ → List Entry → List Entry
+with_state state [] = []
+with_state state (entry ∷ entries) = record { state = state; value = entry.value } ∷ entries

@@ -1,5 +1,5 @@
 ghost use Rattle.std.specs.Prelude.{◌≡◌, ◌↔◌, IsTrue, IfOk, reverse, take, drop};
-ghost use Rattle.sc_stack.specs.Entries.{states_of, values_of};
+ghost use Rattle.sc_stack.specs.Entries.{states_of, values_of, with_state};
 ghost use Rattle.sc_stack.specs.Links.{entries_of};
 
 use sc_base::{OutOfMemory, TreeId};
@@ -52,6 +52,15 @@ impl Link {
             left -= 1;
         }
         link
+    }
+
+    /// Gives the top frame, where there is one, another state.
+    pub(crate) fn set_state(&mut self, state: usize)
+        ensures { entries_of self.new ≡ with_state state (entries_of self.old) }
+    {
+        if let Link::Frame(_, top, _) = self {
+            *top = state;
+        }
     }
 
     /// The values of the top `n` frames, the lowest first.

@@ -1,5 +1,5 @@
 ghost use Rattle.std.specs.Prelude.{◌≡◌, ◌↔◌, [], ◌∷◌, IsTrue, IfOk, OnOk, OnErr, length, reverse, take, drop};
-ghost use Rattle.sc_stack.specs.Entries.{state_of, states_of, values_of};
+ghost use Rattle.sc_stack.specs.Entries.{state_of, states_of, values_of, with_state};
 
 use crate::link::Link;
 use sc_base::{OutOfMemory, TreeId};
@@ -67,6 +67,23 @@ impl Stack {
             Link::Bottom => 0,
             Link::Frame(_, state, _) => *state,
         }
+    }
+
+    /// The state below the top frame, or 0, the lowest, where there is no other frame.
+    pub fn state_below(&self) -> usize
+        ensures { result ≡ state_of (drop 1 self.now) }
+    {
+        match self.top.below(1) {
+            Link::Bottom => 0,
+            Link::Frame(_, state, _) => *state,
+        }
+    }
+
+    /// Gives the top frame, where there is one, another state. Its value stays.
+    pub fn set_state(&mut self, state: usize)
+        ensures { self.new ≡ with_state state self.old }
+    {
+        self.top.set_state(state);
     }
 
     /// Puts a frame on top.
