@@ -26,3 +26,4 @@ pub mod StepLemmas
 pub mod TerminalLemmas
 pub mod ValueLemmas
 pub mod ParserLemmas
+pub mod PassLemmas

@@ -7,6 +7,7 @@ pub mod Nodes
 pub mod Outcomes
 pub mod Owns
 pub mod Parsers
+pub mod Passing
 pub mod Pieces
 pub mod Reducing
 pub mod Roots

@@ -1,12 +1,12 @@
 //! A parser of all configurations at once, one event at a time.
-ghost use Rattle.std.specs.Prelude.{[], ◌≡◌, ◌↔◌, ◌⊎◌, ℕ, ◌<◌, true, false, Err, List, None, Option, All, IfErr, IfOk, IfSome, IsTrue, OnOk, length};
+ghost use Rattle.std.specs.Prelude.{[], ◌∷◌, ◌≡◌, ◌↔◌, ◌⊎◌, ℕ, ◌<◌, true, false, Err, Ok, List, None, Option, All, IfErr, IfOk, IfSome, IsTrue, OnErr, OnOk, length};
 ghost use Rattle.c11_parsing.specs.Classes.{Input};
 ghost use Rattle.c11_parsing.specs.Core as core;
 ghost use Rattle.c11_parsing.specs.Core.{Stands};
 ghost use Rattle.sc_base.specs.Seen.{IsHeld};
 ghost use Rattle.sc_fork.specs.declared.event.Event.{Event};
 ghost use Rattle.sc_fork.specs.declared.event.Fact.{Fact};
-ghost use Rattle.sc_fork.specs.Bundles.{AreEnabled, IsFirstRefused};
+ghost use Rattle.sc_fork.specs.Bundles.{AreEnabled, IsDone, IsFirstRefused};
 ghost use Rattle.sc_fork.specs.Choices.{AddsLeaves, AreSound};
 ghost use Rattle.sc_fork.specs.Cores.{IsApplied, IsCore, IsFinished, Starts};
 ghost use Rattle.sc_fork.specs.Enabled.{Has, HasNone, IsEnabled, IsRefused, LooksAt};
@@ -20,7 +20,7 @@ ghost use Rattle.sc_merge.specs.declared.subparser.Subparser.{Subparser};
 ghost use Rattle.sc_merge.specs.Keys.{IsKeyOf};
 ghost use Rattle.sc_merge.specs.Merges.{tables_with};
 ghost use Rattle.sc_model.specs.Growth.{Extends};
-ghost use Rattle.sc_model.specs.Sets.{IsCond, Keeps};
+ghost use Rattle.sc_model.specs.Sets.{IsCond, Keeps, Sets};
 ghost use Rattle.sc_scope.specs.Numbered.{levels_made};
 ghost use Rattle.sc_tree.specs.Lines.{Line, OwnsBranches};
 
@@ -29,6 +29,7 @@ use crate::enabled::{Enabled, all_enabled, enabled_event, looking};
 use crate::event::{Applied, CoreStop, Event, Kind};
 use crate::held::Held;
 use crate::outcome::{Outcome, faults_of, root_of, roots_of};
+use crate::passing::{passed_state, renumber};
 use crate::piece::{Ended, Piece};
 use crate::reducing::reduce;
 use crate::row::Row;
@@ -161,6 +162,31 @@ impl<'a> Core<'a> {
             return Err(CoreStop::OutOfMemory);
         };
         Ok(Applied { made })
+    }
+
+    /// Reduces the subparser by a production that passes one tree on, where that is its action and
+    /// no other has its stack: only the state on top becomes another one. The answer is the number
+    /// that it has then.
+    pub fn pass_on(&mut self, number: usize) -> Result<Option<usize>, OutOfMemory>
+        requires own { (sets : Sets) × ((count : ℕ) × OwnsCore sets count self.old) }
+        ensures done { IfOk result (λ passed. IfSome passed (λ made. (sets : Sets) (lines : List Line) → OwnsCore sets (length lines) self.old → OwnsBranches sets lines
+            → IsDone sets sets lines lines self.old (Event.Reduce number) self.new (made ∷ []))) }
+        ensures not_done { result ≡ Ok None → self.new ≡ self.old }
+        ensures memory { OnErr result (self.new.is_given_up ≡ true) }
+    {
+        if self.is_given_up {
+            return Ok(None);
+        }
+        let Some(state) = passed_state(&self.source, &self.rows, number) else {
+            return Ok(None);
+        };
+        match renumber(&mut self.rows, number, state) {
+            Ok(made) => Ok(made),
+            Err(_) => {
+                self.is_given_up = true;
+                Err(OutOfMemory)
+            }
+        }
     }
 
     /// The condition and the key of the subparser that has the number now.

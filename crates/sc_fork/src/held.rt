@@ -35,7 +35,8 @@ impl Model for Held {
 }
 
 impl Held {
-    ghost use Rattle.std.specs.Prelude.{◌≡◌, IfOk};
+    ghost use Rattle.std.specs.Prelude.{◌≡◌, IfOk, IsFalse, IsTrue};
+    ghost use Rattle.sc_stack.specs.Entries.{with_state};
 
     /// The one head of a body.
     pub(crate) fn new(alloc: Global, subparser: Subparser) -> Result<Held, OutOfMemory>
@@ -49,6 +50,21 @@ impl Held {
         } = subparser;
         let body = Rc::new(alloc, Body { stack, scopes })?;
         Ok(Held { cond, phase, body })
+    }
+
+    /// Gives the top frame of the stack another state, unless other heads have the body too. The
+    /// answer is whether it was done.
+    pub(crate) fn set_state(&mut self, state: usize) -> bool
+        ensures done { IsTrue result → self.new ≡ record self.old { stack = with_state state self.old.stack } }
+        ensures not_done { IsFalse result → self.new ≡ self.old }
+    {
+        match Rc::get_mut(&mut self.body) {
+            Some(body) => {
+                body.stack.set_state(state);
+                true
+            }
+            None => false,
+        }
     }
 }
 

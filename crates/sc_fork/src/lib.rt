@@ -9,6 +9,7 @@ mod fork;
 mod held;
 mod laws;
 mod outcome;
+mod passing;
 mod piece;
 mod reducing;
 mod row;

@@ -24,7 +24,9 @@ impl Model for Row {
 }
 
 impl Row {
-    ghost use Rattle.std.specs.Prelude.{◌≡◌, ◌↔◌, None, Some, IfOk, IsTrue};
+    ghost use Rattle.std.specs.Prelude.{◌≡◌, ◌↔◌, None, Some, IfOk, IsFalse, IsTrue, option_map};
+    ghost use Rattle.sc_merge.specs.declared.subparser.Subparser.{Subparser};
+    ghost use Rattle.sc_stack.specs.Entries.{with_state};
 
     pub(crate) fn new(alloc: Global, held: Held) -> Result<Row, OutOfMemory>
         ensures { IfOk result (λ row. row ≡ Some held) }
@@ -45,6 +47,18 @@ impl Row {
         match &self.held {
             Some(held) => Some(Lent { held }),
             None => None,
+        }
+    }
+
+    /// Gives the subparser another state on top of its stack, unless others have that stack too.
+    /// The answer is whether it was done.
+    pub(crate) fn set_state(&mut self, state: usize) -> bool
+        ensures done { IsTrue result → self.new ≡ option_map (λ (s : Subparser). record s { stack = with_state state s.stack }) self.old }
+        ensures not_done { IsFalse result → self.new ≡ self.old }
+    {
+        match &mut self.held {
+            Some(held) => held.set_state(state),
+            None => false,
         }
     }
 
