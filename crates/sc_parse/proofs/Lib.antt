@@ -11,4 +11,5 @@ pub mod RowLemmas
 pub mod RunLemmas
 pub mod ShiftLemmas
 pub mod TurnLemmas
+pub mod PassLemmas
 pub mod WeightLemmas

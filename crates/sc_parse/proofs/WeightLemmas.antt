@@ -53,7 +53,7 @@ use Rattle.sc_parse.proofs.NumberLemmas.{all-times, each-append, each-both, each
 use Rattle.sc_parse.proofs.RunLemmas.{goes-nowhere, goes-then, row-owned}
 use Rattle.sc_parse.specs.declared.reductions.Weight.{Weight}
 use Rattle.sc_parse.specs.declared.steps.Steps.{Steps}
-use Rattle.sc_parse.specs.Numbers.{AreLike, AreNumbers, Each, IsAt, IsLikeOne, IsReady, Replaces, times}
+use Rattle.sc_parse.specs.Numbers.{AreLike, AreNumbers, Each, IsAt, IsLikeOne, IsReady, Replaces, given, times}
 use Rattle.sc_parse.specs.Runs.{GoesOn, OwnsSteps, StandsBefore}
 use Rattle.sc_parse.specs.Weights.{ActsBy, AreBelow, AreReducing, AreWeighed, HasWeight, IsRanked, IsReducing, IsWeighed, Moves, number_of, numbers_of, rank_of}
 use Rattle.sc_tree.specs.Lines.{Line, OwnsBranches}
@@ -800,14 +800,11 @@ shorter (suc count) (n ∷ left) rest some few is = let long = ap length is in l
 
 -- ---- one subparser alone
 
-pub one-made : (xs : List ℕ) (m : ℕ) → slice_get xs 0 ≡ Some m → length xs ≤ 1 → xs ≡ m ∷ []
-one-made [] m first few = absurd (none-some m first)
-one-made (x ∷ []) m first few = ap (λ n. n ∷ []) (same_Some x m first)
-one-made (x ∷ (y ∷ xs)) m first few = absurd (omega (arith, few))
-
-pub none-made : (xs : List ℕ) → slice_get xs 0 ≡ None → xs ≡ []
-none-made [] none = refl
-none-made (x ∷ xs) none = absurd (none-some x (sym none))
+-- a list of one number at most is what is first of it
+pub given-first : (xs : List ℕ) → length xs ≤ 1 → given (slice_get xs 0) ≡ xs
+given-first [] few = refl
+given-first (x ∷ []) few = refl
+given-first (x ∷ (y ∷ xs)) few = absurd (omega (arith, few))
 
 -- a core can do the reduction of a subparser whose action is one
 pub reduction-enabled : (source : Source) (rows : List (Option Subparser)) (n : ℕ) (s : Subparser) (j p : ℕ) (fact : Fact) → Has rows n s → s.phase ≡ At j → action_in source s j ≡ Some (Reduction p)

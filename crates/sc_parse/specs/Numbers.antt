@@ -1,5 +1,5 @@
 -- Numbers of subparsers, and what becomes of the subparsers that have them.
-use Rattle.std.specs.Prelude.{◌≡◌, ◌≤◌, ◌+◌, ◌==◌, ℕ, List, [], ◌∷◌, slice_get, Option, Some, All, AllPairs, if◌then◌else◌}
+use Rattle.std.specs.Prelude.{◌≡◌, ◌≤◌, ◌+◌, ◌==◌, ℕ, List, [], ◌∷◌, slice_get, Option, None, Some, All, AllPairs, if◌then◌else◌}
 use Rattle.std.specs.List.{Contains}
 use Rattle.lr_tables.specs.declared.grammar.Action.TheVariants.{Reduce}
 use Rattle.sc_fork.specs.declared.source.Source.{Source}
@@ -8,6 +8,11 @@ use Rattle.sc_fork.specs.Seen.{action_in}
 use Rattle.sc_merge.specs.declared.subparser.Phase.TheVariants.{At, Between}
 use Rattle.sc_merge.specs.declared.subparser.Subparser.{Subparser}
 use Rattle.sc_merge.specs.Keys.{AreAlike}
+
+-- the number, where there is one
+abbrev pub given : Option ℕ → List ℕ
+given None = []
+given (Some n) = n ∷ []
 
 -- how often the number is in the list
 abbrev pub times : ℕ → List ℕ → ℕ

@@ -16,7 +16,7 @@ ghost use Rattle.sc_tree.specs.Lines.{OwnsBranches};
 use crate::steps::Steps;
 use lr_tables::Action;
 use sc_base::OutOfMemory;
-use sc_fork::{Event, Kind};
+use sc_fork::Kind;
 use sc_grammar::{NONTERMINALS, production};
 use sc_presence::Conditions;
 use sc_tree::Trees;
@@ -216,11 +216,11 @@ fn reduced_alone<C: Conditions>(
     while let Some(rule) = reduction(steps, number) {
         let production = production(rule);
         prove!(production.right.len() > 1 || production.left.0 < rank);
-        let made = steps.apply(alloc, conds, trees, Event::Reduce(number))?;
-        let Some(next) = made.first() else {
+        let made = steps.reduce(alloc, conds, trees, number)?;
+        let Some(next) = made else {
             return Ok(Vec::new(alloc));
         };
-        number = *next;
+        number = next;
         rank = production.left.0;
     }
     Ok(vec![in alloc; number]?)

@@ -11,7 +11,7 @@ ghost use Rattle.sc_merge.specs.Keys.{AreAlike, IsKeyOf};
 ghost use Rattle.sc_merge.specs.Merges.{tables_with};
 ghost use Rattle.sc_model.specs.Growth.{Extends};
 ghost use Rattle.sc_model.specs.Sets.{Keeps};
-ghost use Rattle.sc_parse.specs.Numbers.{AreApart, AreLike, AreNumbers, Each, Replaces};
+ghost use Rattle.sc_parse.specs.Numbers.{AreApart, AreLike, AreNumbers, Each, Replaces, given};
 ghost use Rattle.sc_parse.specs.Runs.{AreWaiting, GoesOn, IsBefore, StandsBefore, IsRun, IsStepTo, OwnsSteps};
 ghost use Rattle.sc_tree.specs.Lines.{OwnsBranches};
 
@@ -63,6 +63,37 @@ impl Steps<'_> {
             Err(CoreStop::NotEnabled { fact: _ }) => unreachable!(),
             Err(CoreStop::GivenUp) => unreachable!(),
         }
+    }
+
+    /// Does a reduction that the core can do, in place where that is possible. The answer is the
+    /// number of what comes of it, where that goes on.
+    pub(crate) fn reduce<C: Conditions>(
+        &mut self,
+        alloc: Global,
+        conds: &mut C,
+        trees: &mut Trees,
+        number: usize,
+    ) -> Result<Option<usize>, OutOfMemory>
+        requires own { OwnsSteps (C.sets conds.old) (length trees.old) self.old }
+        requires branches { OwnsBranches (C.sets conds.old) trees.old }
+        requires there { (s : Subparser) × Has self.old.core.subparsers number s }
+        requires enabled { (fact : Fact) → IsRefused self.old.core.source self.old.core.subparsers (Event.Reduce number) fact → ⊥ }
+        ensures made { IfOk result (λ made. HasMade self.old.core (Event.Reduce number) self.new.core (given made)) }
+        ensures goes_on { IfOk result (λ made. (place : ℕ) → IsBefore self.old.core.subparsers place (Event.Reduce number)
+            → GoesOn (C.sets conds.old) (C.sets conds.new) trees.old trees.new place self.old self.new) }
+
+        // at every outcome
+        ensures keeps { Keeps (C.sets conds.old) (C.sets conds.new) }
+        ensures grows { Extends trees.old trees.new }
+        ensures owns { OwnsBranches (C.sets conds.new) trees.new }
+    {
+        let Some(made) = self.core.pass_on(number)? else {
+            let numbers = self.apply(alloc, conds, trees, Event::Reduce(number))?;
+            return Ok(numbers.first().copied());
+        };
+        let packed = PackedEvent::new(Event::Reduce(number))?;
+        self.events.push(packed)?;
+        Ok(Some(made))
     }
 
     /// Does the event of each of these subparsers, which the core can all do. The answer is the

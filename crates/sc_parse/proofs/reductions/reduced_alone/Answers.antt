@@ -1,5 +1,4 @@
-use Rattle.std.proofs.Common.{◌≡◌, [], ◌∷◌, length, slice_get, sym, ap, ◌∙◌, subst, arith}
-use Rattle.std.specs.Prelude.{option_copied}
+use Rattle.std.proofs.Common.{◌≡◌, [], ◌∷◌, length, sym, ap, ◌∙◌, subst, arith}
 use Rattle.std.proofs.lemmas.Bool.{ltb-false}
 use Rattle.std.proofs.lemmas.List.Elements.{All-head, All-nil}
 use Rattle.sc_base.proofs.Growth.{Extends-trans}
@@ -11,11 +10,11 @@ use Rattle.sc_model.proofs.SetLemmas.{Keeps-trans}
 use Rattle.sc_fork.specs.declared.event.Event.TheVariants.{Reduce}
 use Rattle.sc_parse.proofs.NumberLemmas.{event-replaces}
 use Rattle.sc_parse.specs.Runs.{StandsBefore}
-use Rattle.sc_parse.proofs.WeightLemmas.{alone-lower, alone-moves, alone-next, alone-ready, at-number, first-alone, HasReduced, made-few, none-made, one-each, one-made, rank-falls, reduced-first, reducing-one, reduction-enabled, reduction-number}
-use Rattle.sc_parse.specs.Numbers.{Each, IsAt, IsReady, Replaces}
+use Rattle.sc_parse.proofs.WeightLemmas.{alone-lower, alone-moves, alone-next, alone-ready, at-number, first-alone, HasReduced, one-each, rank-falls, reduced-first, reducing-one, reduction-enabled, reduction-number}
+use Rattle.sc_parse.specs.Numbers.{Each, IsAt, IsReady, Replaces, given}
 use Rattle.sc_parse.specs.Weights.{IsReducing, IsWeighed}
 use Rattle.sc_parse.proofs.reductions.reduced_alone.Goals as goal
-use Rattle.sc_parse.proofs.reductions.reduced_alone.Goals.{In-Some, In_ok-made, then-production-gt1, else-production-gt1}
+use Rattle.sc_parse.proofs.reductions.reduced_alone.Goals.{In-Some, In-Some-made, In_default-made, In_ok-made, then-production-gt1, else-production-gt1}
 
 pub loop-rule-init : goal.loop-rule-init
 loop-rule-init g c = first-alone (g.C.Conditions.sets c.args.conds.now) c.args.trees.now c.args.steps.now c.args.number c.requires.own c.requires.branches c.requires.numbers
@@ -31,19 +30,19 @@ reduces g c =
 
 -- what the reduction makes of it
 once : (g : _) (c : In_ok-made g)
-    → HasReduced (g.C.Conditions.sets c.loop-rule.conds) (g.C.Conditions.sets c.apply.new.conds) c.loop-rule.trees c.apply.new.trees c.loop-rule.steps c.apply.new.self (c.loop-rule.number ∷ []) []
-    c.production-production.result.left.0 c.in_ok-made.made.items []
+    → HasReduced (g.C.Conditions.sets c.loop-rule.conds) (g.C.Conditions.sets c.reduce.new.conds) c.loop-rule.trees c.reduce.new.trees c.loop-rule.steps c.reduce.new.self (c.loop-rule.number ∷ []) []
+    c.production-production.result.left.0 (given c.in_ok-made.made) []
 once g c =
     let at = c.loop-rule in
     let rows = at.steps.core.subparsers in
     let each = (at.invariant.moves c.requires.at.0 c.requires.at.1).at in
     let reducing = reducing-one at.steps.core.source rows at.number c.requires.at.0 c.in-Some.rule [] each
     (λ s has phase. c.in-Some.ensures.some s c.requires.at.0 (record { has = has; phase = phase })) in
-    reduced-first (g.C.Conditions.sets at.conds) (g.C.Conditions.sets c.apply.new.conds) at.trees c.apply.new.trees at.steps c.apply.new.self (at.number ∷ []) c.in-Some.rule
-    (production_of c.production-production.result) [] c.in_ok-made.made.items at.invariant.own at.invariant.branches at.invariant.numbers c.requires.at.0 each
+    reduced-first (g.C.Conditions.sets at.conds) (g.C.Conditions.sets c.reduce.new.conds) at.trees c.reduce.new.trees at.steps c.reduce.new.self (at.number ∷ []) c.in-Some.rule
+    (production_of c.production-production.result) [] (given c.in_ok-made.made) at.invariant.own at.invariant.branches at.invariant.numbers c.requires.at.0 each
     (All-nil (IsWeighed at.steps.core.source rows)) c.production-production.ensures
-    (event-replaces at.steps.core c.apply.new.self.core (Reduce at.number) c.in_ok-made.made.items c.in_ok-made.ensures.made at.invariant.numbers)
-    (one-each at.steps.core c.apply.new.self.core at.number c.in-Some.rule c.in_ok-made.made.items c.in_ok-made.ensures.made reducing)
+    (event-replaces at.steps.core c.reduce.new.self.core (Reduce at.number) (given c.in_ok-made.made) c.in_ok-made.ensures.made at.invariant.numbers)
+    (one-each at.steps.core c.reduce.new.self.core at.number c.in-Some.rule (given c.in_ok-made.made) c.in_ok-made.ensures.made reducing)
     (λ place before. c.in_ok-made.ensures.goes_on place (λ s has. at-number (StandsBefore place) rows at.number [] s has before))
 
 pub production-production-requires-clause-first : goal.production-production-requires-clause-first
@@ -71,71 +70,71 @@ prove-unreachable-requires g c = elim c.if-production-gt1.branch [
       omega (arith, falls, high)
 ]
 
-pub apply-requires-clause-own : goal.apply-requires-clause-own
-apply-requires-clause-own g c = c.loop-rule.invariant.own
+pub reduce-requires-clause-own : goal.reduce-requires-clause-own
+reduce-requires-clause-own g c = c.loop-rule.invariant.own
 
-pub apply-requires-clause-branches : goal.apply-requires-clause-branches
-apply-requires-clause-branches g c = c.loop-rule.invariant.branches
+pub reduce-requires-clause-branches : goal.reduce-requires-clause-branches
+reduce-requires-clause-branches g c = c.loop-rule.invariant.branches
 
-pub apply-requires-clause-enabled : goal.apply-requires-clause-enabled
-apply-requires-clause-enabled g c = λ fact refused.
+pub reduce-requires-clause-enabled : goal.reduce-requires-clause-enabled
+reduce-requires-clause-enabled g c = λ fact refused.
     let j = c.requires.at.0 in
     let rows = c.loop-rule.steps.core.subparsers in
-    let at = All-head (λ n. (s : Subparser) × (Has rows n s × IsAt j s)) c.loop-rule.number [] (looks g (goal.at.apply-requires-clause-enabled g c).In-Some) in
+    let at = All-head (λ n. (s : Subparser) × (Has rows n s × IsAt j s)) c.loop-rule.number [] (looks g (goal.at.reduce-requires-clause-enabled g c).In-Some) in
     reduction-enabled c.loop-rule.steps.core.source rows c.loop-rule.number at.0 j c.in-Some.rule fact at.1.0 at.1.1 (c.in-Some.ensures.some at.0 j (record { has = at.1.0; phase = at.1.1 })) refused
 
+pub reduce-requires-clause-there : goal.reduce-requires-clause-there
+reduce-requires-clause-there g c =
+    let rows = c.loop-rule.steps.core.subparsers in
+    let at = All-head (λ n. (s : Subparser) × (Has rows n s × IsAt c.requires.at.0 s)) c.loop-rule.number [] (looks g (goal.at.reduce-requires-clause-there g c).In-Some) in
+    (at.0, at.1.0)
+
 pub returns-in_err-made-clause-keeps : goal.returns-in_err-made-clause-keeps
-returns-in_err-made-clause-keeps g c = Keeps-trans c.loop-rule.invariant.keeps c.apply.ensures.keeps
+returns-in_err-made-clause-keeps g c = Keeps-trans c.loop-rule.invariant.keeps c.reduce.ensures.keeps
 
 pub returns-in_err-made-clause-grows : goal.returns-in_err-made-clause-grows
-returns-in_err-made-clause-grows g c = Extends-trans c.loop-rule.invariant.grows c.apply.ensures.grows
+returns-in_err-made-clause-grows g c = Extends-trans c.loop-rule.invariant.grows c.reduce.ensures.grows
 
 -- ---- where it ends
 
-none-there : (g : _) (c : goal.After-drop-made g) → c.in_ok-made.made.items ≡ []
-none-there g c = none-made c.in_ok-made.made.items (ap (λ ns. slice_get ns 0) (sym c.deref.ensures.value) ∙ sym c.first.ensures.value ∙ ap option_copied c.in_default-first.is)
+none-there : (g : _) (c : In_default-made g) → given c.in_ok-made.made ≡ []
+none-there g c = ap given c.in_default-made.is
 
-pub returns-in_default-first-clause-goes_on : goal.returns-in_default-first-clause-goes_on
-returns-in_default-first-clause-goes_on g c = λ j each.
-    (alone-moves (g.C.Conditions.sets c.args.conds.now) (g.C.Conditions.sets c.loop-rule.conds) (g.C.Conditions.sets c.apply.new.conds) c.args.trees.now c.loop-rule.trees c.apply.new.trees
-    c.args.steps.now c.loop-rule.steps c.apply.new.self c.args.number c.loop-rule.number c.loop-rule.rank c.production-production.result.left.0 c.in_ok-made.made.items c.loop-rule.invariant
-    (once g (goal.at.returns-in_default-first-clause-goes_on g c).In_ok-made) j each).goes_on
+pub returns-in_default-made-clause-goes_on : goal.returns-in_default-made-clause-goes_on
+returns-in_default-made-clause-goes_on g c = λ j each.
+    (alone-moves (g.C.Conditions.sets c.args.conds.now) (g.C.Conditions.sets c.loop-rule.conds) (g.C.Conditions.sets c.reduce.new.conds) c.args.trees.now c.loop-rule.trees c.reduce.new.trees
+    c.args.steps.now c.loop-rule.steps c.reduce.new.self c.args.number c.loop-rule.number c.loop-rule.rank c.production-production.result.left.0 (given c.in_ok-made.made) c.loop-rule.invariant
+    (once g (goal.at.returns-in_default-made-clause-goes_on g c).In_ok-made) j each).goes_on
 
-pub returns-in_default-first-clause-replaces : goal.returns-in_default-first-clause-replaces
-returns-in_default-first-clause-replaces g c =
-    subst (λ ns. Replaces c.args.steps.now.core.subparsers c.apply.new.self.core.subparsers (c.args.number ∷ []) ns) (none-there g c ∙ sym c.new.ensures.items)
-    (alone-moves (g.C.Conditions.sets c.args.conds.now) (g.C.Conditions.sets c.loop-rule.conds) (g.C.Conditions.sets c.apply.new.conds) c.args.trees.now c.loop-rule.trees c.apply.new.trees
-    c.args.steps.now c.loop-rule.steps c.apply.new.self c.args.number c.loop-rule.number c.loop-rule.rank c.production-production.result.left.0 c.in_ok-made.made.items c.loop-rule.invariant
-    (once g (goal.at.returns-in_default-first-clause-replaces g c).In_ok-made) c.requires.at.0 c.requires.at.1).replaces
+pub returns-in_default-made-clause-replaces : goal.returns-in_default-made-clause-replaces
+returns-in_default-made-clause-replaces g c =
+    subst (λ ns. Replaces c.args.steps.now.core.subparsers c.reduce.new.self.core.subparsers (c.args.number ∷ []) ns) (none-there g (goal.at.returns-in_default-made-clause-replaces g c).In_default-made ∙ sym c.new.ensures.items)
+    (alone-moves (g.C.Conditions.sets c.args.conds.now) (g.C.Conditions.sets c.loop-rule.conds) (g.C.Conditions.sets c.reduce.new.conds) c.args.trees.now c.loop-rule.trees c.reduce.new.trees
+    c.args.steps.now c.loop-rule.steps c.reduce.new.self c.args.number c.loop-rule.number c.loop-rule.rank c.production-production.result.left.0 (given c.in_ok-made.made) c.loop-rule.invariant
+    (once g (goal.at.returns-in_default-made-clause-replaces g c).In_ok-made) c.requires.at.0 c.requires.at.1).replaces
 
-pub returns-in_default-first-clause-keeps : goal.returns-in_default-first-clause-keeps
-returns-in_default-first-clause-keeps g c = Keeps-trans c.loop-rule.invariant.keeps c.apply.ensures.keeps
+pub returns-in_default-made-clause-keeps : goal.returns-in_default-made-clause-keeps
+returns-in_default-made-clause-keeps g c = Keeps-trans c.loop-rule.invariant.keeps c.reduce.ensures.keeps
 
-pub returns-in_default-first-clause-grows : goal.returns-in_default-first-clause-grows
-returns-in_default-first-clause-grows g c = Extends-trans c.loop-rule.invariant.grows c.apply.ensures.grows
+pub returns-in_default-made-clause-grows : goal.returns-in_default-made-clause-grows
+returns-in_default-made-clause-grows g c = Extends-trans c.loop-rule.invariant.grows c.reduce.ensures.grows
 
 -- ---- where it goes on
 
-one-there : (g : _) (c : goal.After-drop-made-in-Some g) → c.in_ok-made.made.items ≡ c.in-Some-first.next.now ∷ []
-one-there g c =
-    let j = c.requires.at.0 in
-    let rows = c.loop-rule.steps.core.subparsers in
-    let at = All-head (λ n. (s : Subparser) × (Has rows n s × IsAt j s)) c.loop-rule.number [] (c.loop-rule.invariant.moves j c.requires.at.1).at in
-    one-made c.in_ok-made.made.items c.in-Some-first.next.now
-    (ap (λ ns. slice_get ns 0) (sym c.deref.ensures.value) ∙ sym c.first.ensures.value ∙ ap option_copied c.in-Some-first.is)
-    (made-few c.loop-rule.steps.core c.apply.new.self.core c.loop-rule.number c.in_ok-made.made.items at.0 c.in_ok-made.ensures.made at.1.0)
+one-there : (g : _) (c : In-Some-made g) → given c.in_ok-made.made ≡ c.in-Some-made.next ∷ []
+one-there g c = ap given c.in-Some-made.is
 
 pub loop-rule-smaller : goal.loop-rule-smaller
 loop-rule-smaller g c =
-    alone-lower (g.C.Conditions.sets c.args.conds.now) (g.C.Conditions.sets c.loop-rule.conds) (g.C.Conditions.sets c.apply.new.conds) c.args.trees.now c.loop-rule.trees c.apply.new.trees
-    c.args.steps.now c.loop-rule.steps c.apply.new.self c.args.number c.loop-rule.number c.loop-rule.rank c.production-production.result.left.0 c.in_ok-made.made.items c.loop-rule.invariant
-    (once g (goal.at.loop-rule-smaller g c).In_ok-made) c.in-Some-first.next.now (one-there g c)
+    alone-lower (g.C.Conditions.sets c.args.conds.now) (g.C.Conditions.sets c.loop-rule.conds) (g.C.Conditions.sets c.reduce.new.conds) c.args.trees.now c.loop-rule.trees c.reduce.new.trees
+    c.args.steps.now c.loop-rule.steps c.reduce.new.self c.args.number c.loop-rule.number c.loop-rule.rank c.production-production.result.left.0 (given c.in_ok-made.made) c.loop-rule.invariant
+    (once g (goal.at.loop-rule-smaller g c).In_ok-made) c.in-Some-made.next (one-there g (goal.at.loop-rule-smaller g c).In-Some-made)
 
 pub loop-rule-preserved : goal.loop-rule-preserved
 loop-rule-preserved g c =
-    alone-next (g.C.Conditions.sets c.args.conds.now) (g.C.Conditions.sets c.loop-rule.conds) (g.C.Conditions.sets c.apply.new.conds) c.args.trees.now c.loop-rule.trees c.apply.new.trees
-    c.args.steps.now c.loop-rule.steps c.apply.new.self c.args.number c.loop-rule.number c.loop-rule.rank c.production-production.result.left.0 c.in_ok-made.made.items c.loop-rule.invariant
-    (once g (goal.at.loop-rule-preserved g c).In_ok-made) c.in-Some-first.next.now (one-there g c)
+    alone-next (g.C.Conditions.sets c.args.conds.now) (g.C.Conditions.sets c.loop-rule.conds) (g.C.Conditions.sets c.reduce.new.conds) c.args.trees.now c.loop-rule.trees c.reduce.new.trees
+    c.args.steps.now c.loop-rule.steps c.reduce.new.self c.args.number c.loop-rule.number c.loop-rule.rank c.production-production.result.left.0 (given c.in_ok-made.made) c.loop-rule.invariant
+    (once g (goal.at.loop-rule-preserved g c).In_ok-made) c.in-Some-made.next (one-there g (goal.at.loop-rule-preserved g c).In-Some-made)
 
 pub returns-in_err-vec-clause-keeps : goal.returns-in_err-vec-clause-keeps
 returns-in_err-vec-clause-keeps g c = c.loop-rule.invariant.keeps
