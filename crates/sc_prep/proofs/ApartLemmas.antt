@@ -1,9 +1,9 @@
 -- Tokens that stand apart, as lists of them are put together and taken apart.
-use Rattle.std.proofs.Common.{◌≡◌, ℕ, suc, ◌+◌, List, [], ◌∷◌, ◌++◌, length, drop, take, get_or, map, append_assoc, refl, ap, sym, subst, ◌∙◌, arith, All, AllPairs}
+use Rattle.std.proofs.Common.{◌≡◌, ℕ, suc, ◌+◌, List, [], ◌∷◌, ◌++◌, length, drop, take, get_or, map, append_assoc, ap, sym, subst, arith, All, AllPairs, Option, inl, inr}
 use Rattle.sc_model.specs.Token as model
-use Rattle.sc_prep.proofs.Facts.{All-append, All-map, AllPairs-cons, append-nil, get_or-append-add, get_or-map, get_or_append_left, length-append, length-map, map-append, take-append-drop, under}
+use Rattle.sc_prep.proofs.Facts.{All-append, All-map, AllPairs-cons, append-nil, get_or-append-add, get_or-map, get_or_append_left, length-append, length-map, take-append-drop}
 use Rattle.sc_prep.proofs.Positions.{lexed-apart}
-use Rattle.sc_prep.proofs.Terms.{AreDifferent, AreLinesOf, Cond, FileLines, GathersFrom, IsPart, Sets, StandApart, Standard, Token, Walk, in_file, position_of, seen, tokens_in}
+use Rattle.sc_prep.proofs.Terms.{AreDifferent, AreLinesOf, Cond, EndsRead, FileLines, GathersFrom, OpenRuns, Sets, StandApart, Standard, Token, Walk, in_file, position_of, seen, tokens_in, tokens_read}
 
 module _ {A : Type 0} (R : A → A → Type 0) where
   pub pairs-head : (x : A) (xs : List A) → AllPairs R (x ∷ xs) → All (R x) xs
@@ -70,32 +70,26 @@ pub different : (names files : List (List ℕ)) (list : List (Cond × Token)) �
 different names files list apart = λ i j d low below same.
     pairs-unmap IsApart (λ (item : Cond × Token). item.1) list apart i j d low below (ap (λ (t : model.Token). t.place.position) same)
 
--- ---- what is gathered
-
-pub tokens-push : (items : List (Cond × Token)) (cond : Cond) (t : Token) (rest : List Token) → tokens_in (items ++ (cond, t) ∷ []) ++ rest ≡ tokens_in items ++ (t ∷ rest)
-tokens-push items cond t rest =
-    ap (λ ts. ts ++ rest) (map-append (λ (item : Cond × Token). item.1) items ((cond, t) ∷ [])) ∙ append_assoc (tokens_in items) (t ∷ []) rest
+-- ---- what is read
 
 pub gathers-then : (l k : List Token) (a b c : Walk) → GathersFrom l a b → GathersFrom k b c → GathersFrom (l ++ k) a c
 gathers-then l k a b c first second = λ rest apart.
-    second rest (first (k ++ rest) (subst (λ ts. StandApart (tokens_in a.gathered ++ ts)) (append_assoc l k rest) apart))
+    second rest (first (k ++ rest) (subst (λ ts. StandApart (tokens_read a.runs.read ++ ts)) (append_assoc l k rest) apart))
 
-pub gathers-same : (line : List Token) (a b : Walk) → b.gathered ≡ a.gathered → GathersFrom line a b
-gathers-same line a b same = λ rest apart. subst (λ list. StandApart (tokens_in list ++ rest)) (sym same) (apart-without (tokens_in a.gathered) line rest apart)
+pub gathers-same : (line : List Token) (a b : Walk) → b.runs ≡ a.runs → GathersFrom line a b
+gathers-same line a b same = λ rest apart.
+    subst (λ (r : OpenRuns). StandApart (tokens_read r.read ++ rest)) (sym same) (apart-without (tokens_read a.runs.read) line rest apart)
 
--- a line that is gathered
-pub gathers-line : (line : List Token) (cond : Cond) (a b : Walk) → b.gathered ≡ a.gathered ++ under cond line → GathersFrom line a b
-gathers-line line cond a b is = λ rest apart.
-    let tokens = ap tokens_in is ∙ (map-append (λ (item : Cond × Token). item.1) a.gathered (under cond line) ∙ ap (λ ts. tokens_in a.gathered ++ ts) (tokens-under cond line)) in
-    subst (λ ts. StandApart (ts ++ rest)) (sym tokens) (subst StandApart (sym (append_assoc (tokens_in a.gathered) line rest)) apart)
-  where
-    tokens-under : (cond : Cond) (line : List Token) → tokens_in (under cond line) ≡ line
-    tokens-under cond [] = refl
-    tokens-under cond (t ∷ ts) = ap (λ xs. t ∷ xs) (tokens-under cond ts)
+-- a line that is read
+pub gathers-line : (line : List Token) (a b : Walk) → tokens_read b.runs.read ≡ tokens_read a.runs.read ++ line → GathersFrom line a b
+gathers-line line a b is = λ rest apart. subst (λ ts. StandApart (ts ++ rest)) (sym is) (subst StandApart (sym (append_assoc (tokens_read a.runs.read) line rest)) apart)
 
--- only items of a list are left of it
-pub gathers-part : {s : Sets} (line : List Token) (a b : Walk) → IsPart a.gathered s b.gathered → GathersFrom line a b
-gathers-part line a b part = λ rest apart. part.apart rest (apart-without (tokens_in a.gathered) line rest apart)
+-- runs that end
+pub ended-tokens : (P : List Token → Type 0) {old new : Sets} {read next : List (Cond × Option Token)} {acting live : ℕ} → EndsRead old read acting live new next → P [] → P (tokens_read read) → P (tokens_read next)
+ended-tokens P ends none all = elim ends.tokens [ inl empty ↦ subst P (sym empty) none | inr same ↦ subst P (sym same) all ]
+
+pub gathers-ended : {old new : Sets} {acting live : ℕ} (a b : Walk) → EndsRead old a.runs.read acting live new b.runs.read → GathersFrom [] a b
+gathers-ended a b ends = λ rest apart. ended-tokens (λ ts. StandApart (ts ++ rest)) ends (apart-right (tokens_read a.runs.read) rest apart) apart
 
 -- ---- the tokens of a file
 

@@ -1,83 +1,35 @@
 -- What closing the runs does at each configuration.
-use Rattle.std.proofs.Common.{◌≡◌, ℕ, ◌<◌, ◌&&◌, not, Bool, true, false, List, [], ◌∷◌, ◌++◌, All, map, reverse, length, Vec, Global, Option, Some, None, Result, Ok, Err, append-nil, refl, sym, ap, subst, ◌∙◌, arith, if◌then◌else◌, is_none}
-use Rattle.c11_macros.specs.Expansion.{empty}
+use Rattle.std.proofs.Common.{◌≡◌, ℕ, ◌<◌, ◌&&◌, not, Bool, true, false, List, [], ◌∷◌, ◌++◌, All, map, length, take, Option, Some, None, Ok, Err, append-nil, append_assoc, ◌⊎◌, refl, sym, ap, subst, ◌∙◌, if◌then◌else◌, is_none}
+use Rattle.c11_macros.specs.Hidden.{failure_at}
 use Rattle.sc_base.specs.declared.fault.Fault as base
+use Rattle.sc_base.specs.declared.place.Place as base_place
 use Rattle.sc_base.specs.declared.token.Token as base_token
-use Rattle.sc_model.specs.Token.{Token, name_of}
-use Rattle.sc_prep.proofs.Facts.{All-append, All-cons, All-head, All-nil, All-tail, Extends-within, IsConfig-Keeps, IsConfig-kept, IsTable-Extends, IsTable-Keeps, Keeps-trans, faults_at-Keeps, faults_at-append, items_at-Keeps, items_at-append, macros_at-Extends, map-append, true≢false}
-use Rattle.sc_prep.proofs.LineSteps.{tokens-grown}
+use Rattle.sc_expand.proofs.TextLemmas.{seen-out}
+use Rattle.sc_expand.specs.Closing.{is_several, unclosed_at}
+use Rattle.sc_expand.specs.Moved.{moved, moved_failure}
+use Rattle.sc_expand.specs.Open.{closed}
+use Rattle.sc_expand.specs.Seen.{seen_failure}
+use Rattle.sc_model.specs.Token.{Place, Token}
+use Rattle.sc_model.specs.declared.cause.Cause.TheVariants.{UnterminatedCall}
+use Rattle.sc_prep.proofs.ApartLemmas.{ended-tokens, gathers-ended}
+use Rattle.sc_prep.proofs.Facts.{All-append, All-cons, All-head, All-map, All-nil, All-tail, All-weaker, IsConfig-Keeps, IsConfig-kept, IsTable-Keeps, Keeps-trans, PlainToken, faults_at-Keeps, faults_at-append, items_at-Keeps, map-append, true≢false}
 use Rattle.sc_prep.proofs.Machine.{inert_closing}
-use Rattle.sc_prep.proofs.SettledText.{behind_these, text-as, text-closes, text-expands}
-use Rattle.sc_prep.proofs.Terms.{AllPass, AreOnceHeld, ArePlaced, ClosesPlain, Cond, Expanded, Extends, Fault, HasText, IsCond, IsConfig, IsEmpty, IsExpanded, IsHeld, IsHeldAnswer, IsHeldWalk, IsNever, IsPlaced, IsTable, Keeps, Machine, OnceFile, OwnsOnce, PutsOut, Section, Sets, Stands, TextExpands, Walk, acts, any_token, closing_run, faults_at, has_no_newline, has_none, is_empty, is_plain, items_at, macros_at, once_at, option_to_list, put_out, seen, seen_fault, text_at, token_of, unwrap_or}
+use Rattle.sc_prep.proofs.Plain.{text-plain}
+use Rattle.sc_prep.proofs.RunLemmas.{fault-items, faults-All, part-All}
+use Rattle.sc_prep.proofs.SettledText.{TextEnds, fails, puts, text-as, text-begins, text-ends}
+use Rattle.sc_prep.proofs.Terms.{AllPass, Cond, EndsRuns, Expands, Failure, Fault, HasSettled, Hidden, IsCond, IsConfig, IsHeldHidden, IsHeldWalk, IsNever, IsOneLine, IsPlaced, IsPlainState, IsStored, IsTable, Keeps, LineStage, Machine, Name, PlainEach, RunAt, Sets, TextExpands, Walk, acts, after_these, any_machine, any_token, closing_run, fault_items, fault_of, faults_at, has_no_newline, has_none, held_at, hidden_at, is_empty, is_plain, items_at, macros_at, option_to_list, place_alone, put_out, run_at, seen, seen_fault, seen_hidden, seen_place, text_of_answer, token_of}
+use Rattle.sc_prep.proofs.Texts.{held_at-append, items_seen-append}
 use Rattle.sc_prep.proofs.WalkMoves.{owns-kept, simulates-kept}
-use Rattle.sc_prep.specs.Simulates.{Arrives, Closed, Owns, OwnsSection, Simulates, SimulatesOneOf, section_at}
-
--- ---- what the items of a list have, those of a configuration have
-
-pub items_at-All : (P : base_token.Token → Type 0) (s : Sets) (list : List (Cond × base_token.Token)) (c : List ℕ) → All (λ (item : Cond × base_token.Token). P item.1) list → All P (items_at s list c)
-items_at-All P s [] c all = All-nil P
-items_at-All P s (x ∷ xs) c all =
-    let Q : Cond × base_token.Token → Type 0 = λ item. P item.1 in
-    by (s.has x.0.0 c) (All-head Q x xs all) (items_at-All P s xs c (All-tail Q x xs all))
-  where
-    by : (b : Bool) → P x.1 → All P (items_at s xs c) → All P (if b then x.1 ∷ items_at s xs c else items_at s xs c)
-    by true first rest = All-cons P x.1 (items_at s xs c) first rest
-    by false first rest = rest
-
--- ---- the table of texts grows
-
-module _ {names more : List (List ℕ)} (grows : Extends names more) where
-  text-grown : (id : ℕ) → id < length names → text_at more id ≡ text_at names id
-  text-grown id within = ap (λ t. unwrap_or t []) (grows.kept id within)
-
-  pub placed-grown : (files : ℕ) (t : base_token.Token) → IsPlaced names files t → IsPlaced more files t
-  placed-grown files t placed = record {
-    held = record {
-      spelling = Extends-within t.spelling.0 placed.held.spelling grows;
-      name = Extends-within t.name.0 placed.held.name grows;
-      stands_for = text-grown t.name.0 placed.held.name ∙ (placed.held.stands_for ∙ ap name_of (sym (text-grown t.spelling.0 placed.held.spelling)));
-    };
-    file = placed.file;
-  }
-
-  pub list-grown : (files : ℕ) (list : List (Cond × base_token.Token)) → ArePlaced names files list → ArePlaced more files list
-  list-grown files list placed = λ k d h. placed-grown files _ (placed k d h)
-
-  pub plain-grown : (files : ℕ) (list : List (Cond × base_token.Token)) → ArePlaced names files list → AllPass (is_plain names) list → AllPass (is_plain more) list
-  plain-grown files list placed plain = λ k d h. ap has_no_newline (text-grown _ (placed k d h).held.spelling) ∙ plain k d h
-
-  module _ (files : List (List ℕ)) where
-    items-grown : (s : Sets) (list : List (Cond × base_token.Token)) (c : List ℕ) (count : ℕ) → ArePlaced names count list
-        → map (seen more files) (items_at s list c) ≡ map (seen names files) (items_at s list c)
-    items-grown s list c count placed = tokens-grown files grows (items_at s list c) (items_at-All (IsHeld names) s list c (λ k d h. (placed k d h).held))
-
-    pub shown-before : {old s : Sets} → Keeps old s → (list : List (Cond × base_token.Token)) (c : List ℕ) → All (λ (item : Cond × base_token.Token). IsCond old item.0.0) list
-        → ArePlaced names (length files) list → IsConfig old.arities c → map (seen more files) (items_at s list c) ≡ map (seen names files) (items_at old list c)
-    shown-before {old} {s} since list c own placed listed = items-grown s list c (length files) placed ∙ ap (map (seen names files)) (items_at-Keeps list c since own listed)
-
-    -- the walk stays where it is
-    pub simulates-grown : {s : Sets} (w : Walk) (test : base_token.Token → Bool) (count : ℕ) (config : List ℕ) (m : Machine) → IsTable s names w.table → IsHeldWalk names count test w
-        → Simulates s names files w config m → Simulates s more files w config m
-    simulates-grown {s} w test count config m is held simulates = record {
-      active = simulates.active;
-      acting = simulates.acting;
-      sections = simulates.sections;
-      prepared = record {
-        live = simulates.prepared.live;
-        fault = simulates.prepared.fault;
-      };
-      text = λ none. text-as (items-grown s w.gathered config count held.gathered) (items-grown s w.prepared.list config count held.list) (simulates.text none);
-      macros = λ none name. macros_at-Extends grows is config name ∙ simulates.macros none name;
-      once = simulates.once;
-    }
+use Rattle.sc_prep.specs.Simulates.{Arrives, Closed, Owns, Simulates, SimulatesOneOf}
+use Rattle.sc_subst.specs.declared.hidden.Hidden as base_hidden
 
 -- ---- of what a configuration has
 
-empty-seen : {F : Type 0} (f : base.Fault → F) (xs : List base.Fault) → map f xs ≡ [] → is_empty xs ≡ true
+pub empty-seen : {F : Type 0} (f : base.Fault → F) (xs : List base.Fault) → map f xs ≡ [] → is_empty xs ≡ true
 empty-seen f [] e = refl
 empty-seen f (x ∷ xs) e = absurd (cc)
 
-some-seen : {F : Type 0} (f : base.Fault → F) (xs : List base.Fault) (y : F) (ys : List F) → map f xs ≡ y ∷ ys → is_empty xs ≡ false
+pub some-seen : {F : Type 0} (f : base.Fault → F) (xs : List base.Fault) (y : F) (ys : List F) → map f xs ≡ y ∷ ys → is_empty xs ≡ false
 some-seen f [] y ys e = absurd (cc)
 some-seen f (x ∷ xs) y ys e = refl
 
@@ -98,13 +50,9 @@ none-before : {F : Type 0} (f g : Option F) (b : Bool) → (is_none f && b) ≡ 
 none-before None g b e no_fault = refl
 none-before (Some x) g b e no_fault = let both = e ∙ ap is_none no_fault in cc
 
-if_same : {A : Type 0} (b : Bool) (x : A) → (if b then x else x) ≡ x
-if_same true x = refl
-if_same false x = refl
-
 -- ---- tokens that are spelled on one line
 
-if-all : (P : base_token.Token → Type 0) (b : Bool) (xs : List base_token.Token) → All P xs → All P (if b then xs else [])
+if-all : {A : Type 0} (P : A → Type 0) (b : Bool) (xs : List A) → All P xs → All P (if b then xs else [])
 if-all P true xs all = all
 if-all P false xs all = All-nil P
 
@@ -155,275 +103,308 @@ closes-none files names s w owns is never = record {
       };
 }
 
--- ---- nothing is put out where nothing was gathered
+-- ---- runs that end
 
-pub no-items : {T : Type 0} (xs : List T) → length xs ≡ 0 → xs ≡ []
-no-items [] none = refl
-no-items (x ∷ xs) none = absurd (omega arith)
+-- faults, as failures of the text
+seen-told : (files : List (List ℕ)) (fs : List base.Fault) → map (seen_fault files) fs ≡ map fault_of (map (moved_failure (seen_place files)) (map seen_failure fs))
+seen-told files [] = refl
+seen-told files (f ∷ fs) = ap (λ gs. seen_fault files f ∷ gs) (seen-told files fs)
 
-pub closes-empty : (files names : List (List ℕ)) (s : Sets) (w : Walk) → Owns s w → IsTable s names w.table → w.gathered ≡ [] → SimulatesOneOf files names s w names s w (λ config m n. Closed m n)
-closes-empty files names s w owns is nothing = record {
-  owns = owns;
-  table = is;
-  at = λ config m listed simulates. arrives config m simulates (acts m) refl;
-}
-  where
-    arrives : (config : List ℕ) (m : Machine) → Simulates s names files w config m → (b : Bool) → acts m ≡ b → Arrives s names files w config (Closed m)
-    arrives config m simulates true acting =
-        let has = simulates.text (fault-none m.active m.fault acting) in
-        let gathered = map (seen names files) (items_at s w.gathered config) in
-        let list = map (seen names files) (items_at s w.prepared.list config) in
-        let none : gathered ≡ [] = ap (λ xs. map (seen names files) (items_at s xs config)) nothing in
-        let output = map token_of has.out ++ [] in
-        record {
-          machine = closing_run m (Ok output);
-          done = record {
-            answer = Ok output;
-            expands = λ _. text-expands m.state gathered list has (Ok []) (subst (λ text. TextExpands m.state.macros text (Ok [])) (sym none) (record { answer = Ok []; expands = empty; is = refl }));
-            is = refl;
-          };
-          simulates = subst (Simulates s names files w config) (ap (λ b. record m { state = if b then put_out m.state output else m.state }) (sym acting)) (record {
-            active = simulates.active;
-            acting = simulates.acting;
-            sections = simulates.sections;
-            prepared = record { live = simulates.prepared.live; fault = simulates.prepared.fault };
-            text = λ _. text-as none refl (text-closes m.state gathered list has [] list (sym (append-nil list)));
-            macros = simulates.macros;
-            once = simulates.once;
-          });
-        }
-    arrives config m simulates false idle = record {
-      machine = closing_run m (Ok []);
-      done = record { answer = Ok []; expands = λ acting. absurd (true≢false (sym acting ∙ idle)); is = refl };
-      simulates = subst (Simulates s names files w config) (sym (inert_closing m (Ok []) idle)) simulates;
-    }
+empty-map : {A B : Type 0} (f : A → B) (xs : List A) → is_empty xs ≡ is_empty (map f xs)
+empty-map f [] = refl
+empty-map f (x ∷ xs) = refl
 
--- ---- runs that are put out
+none-left : {A B : Type 0} (f : A → B) (xs : List A) → map f xs ≡ [] → xs ≡ []
+none-left f [] e = refl
+none-left f (x ∷ xs) e = absurd (cc)
 
-module _ (files names more : List (List ℕ)) {old mid new : Sets} (keeps : Keeps old mid) (later : Keeps mid new) (grows : Extends names more) (w next : Walk) (e : Expanded)
-    (owns : Owns old w) (is : IsTable old names w.table) (held : IsHeldWalk names (length files) any_token w)
-    (expands : (c : List ℕ) → IsConfig old.arities c → old.has w.acting.0 c ≡ true
-    → IsExpanded mid more files e (macros_at old names w.table c) (map (seen names files) (items_at old w.gathered c)) c)
-    (others : (c : List ℕ) → IsConfig old.arities c → old.has w.acting.0 c ≡ false → IsEmpty mid e c)
-    (answer : IsHeldAnswer mid more (length files) e) (puts : PutsOut mid w e new next) where
-  module _ (c : List ℕ) (m : Machine) (listed : IsConfig old.arities c) (simulates : Simulates old names files w c m) where
+module _ (files names : List (List ℕ)) (hides : List (List Name)) where
+  abbrev see : List base_hidden.Hidden → List (Hidden Place)
+  see hs = map (moved (seen_place files)) (map (seen_hidden names hides) hs)
+
+  abbrev told : List base.Fault → List (Failure Place)
+  told fs = map (moved_failure (seen_place files)) (map seen_failure fs)
+
+  -- a name alone stays, and a longer list is a call that is not closed
+  few-closed : (hs : List base_hidden.Hidden) → is_several hs ≡ false → closed (see hs) ≡ Ok (see hs)
+  few-closed [] few = refl
+  few-closed (x ∷ []) few = refl
+  few-closed (x ∷ (y ∷ ys)) few = absurd (cc)
+
+  several-closed : (hs : List base_hidden.Hidden) → is_several hs ≡ true
+      → (failure : Failure Place) × (closed (see hs) ≡ Err failure) × (map (moved_failure (seen_place files)) (map unclosed_at (take 1 hs)) ≡ failure ∷ [])
+  several-closed [] several = absurd (cc)
+  several-closed (x ∷ []) several = absurd (cc)
+  several-closed (x ∷ (y ∷ ys)) several = (failure_at UnterminatedCall (moved (seen_place files) (seen_hidden names hides x)), refl, refl)
+
+module _ (files names : List (List ℕ)) {old new : Sets} (w next : Walk) (stored : IsStored old names (length files) w) (settled : HasSettled old names files w) (ends : EndsRuns old w new next) where
+  abbrev mid : Sets
+  mid = ends.middle
+
+  keeps : Keeps old new
+  keeps = Keeps-trans ends.until ends.later
+
+  abbrev faults_more : List base.Fault
+  faults_more = ends.e.faults.items ++ ends.ended
+
+  own-ended : All (λ (f : base.Fault). IsCond mid f.cond.0) ends.ended
+  own-ended = faults-All (λ (item : Cond × Failure base_place.Place). IsCond mid item.0.0) ends.ended ends.ends.part.own
+
+  own-more : All (λ (f : base.Fault). IsCond mid f.cond.0) faults_more
+  own-more = All-append (λ (f : base.Fault). IsCond mid f.cond.0) ends.e.faults.items ends.ended ends.closed.faults_own own-ended
+
+  -- the walk, without its name
+  abbrev now : Walk
+  now = record w {
+    acting = next.acting;
+    runs = record w.runs { gathered = next.runs.gathered; held = next.runs.held; read = next.runs.read };
+    prepared = record w.prepared { list = w.prepared.list ++ ends.e.list; faults = next.prepared.faults; live = next.prepared.live };
+  }
+
+  module _ (c : List ℕ) (listed : IsConfig old.arities c) where
     listed_mid : IsConfig mid.arities c
-    listed_mid = IsConfig-Keeps keeps listed
+    listed_mid = IsConfig-Keeps ends.until listed
 
-    listed_new : IsConfig new.arities c
-    listed_new = IsConfig-Keeps later listed_mid
+    abbrev xs : List base_hidden.Hidden
+    xs = items_at old w.runs.gathered c
 
-    expanded : Simulates mid more files w c m
-    expanded = simulates-grown grows files w any_token (length files) c m (IsTable-Keeps keeps is) held (simulates-kept keeps w owns names files c m listed is simulates)
-
-    stored : Simulates new more files w c m
-    stored = simulates-kept later w (owns-kept keeps w owns) more files c m listed_mid (IsTable-Extends grows (IsTable-Keeps keeps is)) expanded
+    abbrev gathered : List (Hidden Place)
+    gathered = hidden_at old names files w.runs.sets w.runs.gathered c
 
     abbrev none : Bool
-    none = has_none mid e.faults.items c
+    none = has_none mid faults_more c
 
     abbrev shown : List base_token.Token → List Token
-    shown ts = map (seen more files) ts
+    shown ts = map (seen names files) ts
 
-    live-now : new.has next.prepared.live.0 c ≡ (is_none m.fault && none)
-    live-now = puts.live.at c listed_new ∙ ap (λ b. b && none) expanded.prepared.live
+    -- what is put out in the configurations of a test, and what it is refused by
+    list-told : (a several : Bool) → old.has w.acting.0 c ≡ a → is_several xs ≡ several → shown (items_at mid ends.e.list c) ≡ (if a && not several then map token_of gathered else [])
+    list-told a several here is = ap shown (ends.closed.list c listed ∙ (λ i. if here i && not (is i) then map (λ (h : base_hidden.Hidden). h.token) xs else [])) ∙ by (a && not several)
+      where
+        by : (b : Bool) → shown (if b then map (λ (h : base_hidden.Hidden). h.token) xs else []) ≡ (if b then map token_of gathered else [])
+        by true = seen-out names files w.runs.sets xs
+        by false = refl
 
-    acting-now : new.has next.acting.0 c ≡ (acts m && none)
-    acting-now = puts.acting.at c listed_new ∙ ap (λ b. b && none) expanded.acting
+    unclosed-told : (a several : Bool) → old.has w.acting.0 c ≡ a → is_several xs ≡ several
+        → held_at mid files ends.e.faults.items c ≡ map (moved_failure (seen_place files)) (if a && several then map unclosed_at (take 1 xs) else [])
+    unclosed-told a several here is = ap (map (moved_failure (seen_place files))) (ends.closed.faults c listed ∙ (λ i. if here i && is i then map unclosed_at (take 1 xs) else []))
 
-    faults-now : map (seen_fault files) (faults_at new next.prepared.faults.items c) ≡ option_to_list m.fault ++ map (seen_fault files) (faults_at mid e.faults.items c)
-    faults-now =
-        ap (λ fs. map (seen_fault files) (faults_at new fs c)) puts.faults
-        ∙ (ap (map (seen_fault files)) (faults_at-append new w.prepared.faults.items e.faults.items c)
-        ∙ (map-append (seen_fault files) (faults_at new w.prepared.faults.items c) (faults_at new e.faults.items c)
-        ∙ (ap (λ fs. fs ++ map (seen_fault files) (faults_at new e.faults.items c)) stored.prepared.fault
-        ∙ ap (λ fs. option_to_list m.fault ++ map (seen_fault files) fs) (faults_at-Keeps e.faults.items c later answer.faults_own listed_mid))))
+    ended-told : (a : Bool) → old.has w.acting.0 c ≡ a → held_at mid files ends.ended c ≡ (if a then held_at old files w.runs.held.items c else [])
+    ended-told a here =
+        ap (map (moved_failure (seen_place files))) (sym (fault-items mid ends.ended c) ∙ (ends.ends.at c listed ∙ ap (λ b. if b then items_at old (fault_items w.runs.held.items) c else []) here)) ∙ by a
+      where
+        by : (b : Bool) → map (moved_failure (seen_place files)) (if b then items_at old (fault_items w.runs.held.items) c else []) ≡ (if b then held_at old files w.runs.held.items c else [])
+        by true = ap (map (moved_failure (seen_place files))) (fault-items old w.runs.held.items c)
+        by false = refl
 
-    abbrev gathered-before : List Token
-    gathered-before = map (seen names files) (items_at old w.gathered c)
+    told-now : held_at mid files faults_more c ≡ held_at mid files ends.e.faults.items c ++ held_at mid files ends.ended c
+    told-now = held_at-append mid files ends.e.faults.items ends.ended c
 
-    abbrev put-before : List Token
-    put-before = map (seen names files) (items_at old w.prepared.list c)
+    none-now : none ≡ is_empty (held_at mid files faults_more c)
+    none-now = empty-map seen_failure (faults_at mid faults_more c) ∙ empty-map (moved_failure (seen_place files)) (map seen_failure (faults_at mid faults_more c))
 
-    put-now : shown (items_at new next.prepared.list c) ≡ put-before ++ shown (if is_none m.fault && none then items_at mid e.list c else [])
+    -- what is left gathered and held
+    gathered-left : (a : Bool) → old.has w.acting.0 c ≡ a → hidden_at new names files w.runs.sets next.runs.gathered c ≡ (if a then [] else gathered)
+    gathered-left a here = ap (see files names w.runs.sets) (ends.gathered.at c listed ∙ ap (λ b. if not b then xs else []) here) ∙ by a
+      where
+        by : (b : Bool) → see files names w.runs.sets (if not b then xs else []) ≡ (if b then [] else gathered)
+        by true = refl
+        by false = refl
+
+    held-left : (a : Bool) → old.has w.acting.0 c ≡ a → held_at new files next.runs.held.items c ≡ (if a then [] else held_at old files w.runs.held.items c)
+    held-left a here =
+        ap (map (moved_failure (seen_place files))) (sym (fault-items new next.runs.held.items c) ∙ (ends.held.at c listed ∙ ap (λ b. if not b then items_at old (fault_items w.runs.held.items) c else []) here)) ∙ by a
+      where
+        by : (b : Bool) → map (moved_failure (seen_place files)) (if not b then items_at old (fault_items w.runs.held.items) c else []) ≡ (if b then [] else held_at old files w.runs.held.items c)
+        by true = refl
+        by false = ap (map (moved_failure (seen_place files))) (fault-items old w.runs.held.items c)
+
+    put-now : shown (items_at new now.prepared.list c) ≡ shown (items_at old w.prepared.list c) ++ shown (items_at mid ends.e.list c)
     put-now =
-        ap (λ xs. shown (items_at new xs c)) puts.list
-        ∙ (ap (λ xs. shown xs) (items_at-append new w.prepared.list puts.added c)
-        ∙ (map-append (seen more files) (items_at new w.prepared.list c) (items_at new puts.added c)
-        ∙ (ap (λ xs. xs ++ shown (items_at new puts.added c)) (shown-before grows files (Keeps-trans keeps later) w.prepared.list c owns.prepared.list held.list listed)
-        ∙ ap (λ xs. put-before ++ shown xs) (puts.put.at c listed_mid ∙ ap (λ b. if b && none then items_at mid e.list c else []) expanded.prepared.live))))
+        items_seen-append new names files w.prepared.list ends.e.list c
+        ∙ (λ i. shown (items_at-Keeps w.prepared.list c keeps stored.owns.prepared.list listed i) ++ shown (items_at-Keeps ends.e.list c ends.later ends.closed.own listed_mid i))
 
-    run-now : items_at new next.gathered c ≡ (if (is_none m.fault && none) && not (acts m) then items_at mid w.gathered c else [])
-    run-now =
-        puts.gathered.at c listed_mid
-        ∙ (ap (λ b. if (b && none) && not (mid.has w.acting.0 c) then items_at mid w.gathered c else []) expanded.prepared.live
-        ∙ ap (λ b. if (is_none m.fault && none) && not b then items_at mid w.gathered c else []) expanded.acting)
+    module _ (m : Machine) (simulates : Simulates old names files w c m) where
+      kept : Simulates new names files w c m
+      kept = simulates-kept keeps w stored.owns names files c m listed stored.table simulates
 
-    -- the machine with another run, another output and maybe a fault
-    abbrev become : List Token → List Token → Option Fault → Machine
-    become run output fault = record m { state = record m.state { run = run; output = output }; fault = fault }
+      faults-now : map (seen_fault files) (faults_at new next.prepared.faults.items c) ≡ option_to_list m.fault ++ map fault_of (held_at mid files faults_more c)
+      faults-now =
+          ap (λ fs. map (seen_fault files) (faults_at new fs c)) ends.faults
+          ∙ (ap (map (seen_fault files)) (faults_at-append new w.prepared.faults.items faults_more c)
+          ∙ (map-append (seen_fault files) (faults_at new w.prepared.faults.items c) (faults_at new faults_more c)
+          ∙ (λ i. kept.prepared.fault i ++ (ap (map (seen_fault files)) (faults_at-Keeps faults_more c ends.later own-more listed_mid) ∙ seen-told files (faults_at mid faults_more c)) i)))
 
-    simulates-next : (run output : List Token) (fault : Option Fault) → (is_none m.fault && none) ≡ is_none fault → (acts m && none) ≡ (m.active && is_none fault)
-        → option_to_list m.fault ++ map (seen_fault files) (faults_at mid e.faults.items c) ≡ option_to_list fault
-        → (fault ≡ None → HasText (become run output fault).state (shown (items_at new next.gathered c)) (shown (items_at new next.prepared.list c)))
-        → Simulates new more files next c (become run output fault)
-    simulates-next run output fault live acting fault_is text = record {
-      active = ap (λ (g : Cond). new.has g.0 c) puts.group ∙ stored.active;
-      acting = acting-now ∙ acting;
-      sections = ap (λ (v : Vec Section Global). map (section_at new c) (reverse v.items)) puts.sections ∙ stored.sections;
-      prepared = record { live = live-now ∙ live; fault = faults-now ∙ fault_is };
-      text = text;
-      macros = λ none_now name. ap (λ t. macros_at new more t c name) puts.table ∙ stored.macros (none-before m.fault fault none live none_now) name;
-      once = λ none_now name. ap (λ (o : Vec OnceFile Global). once_at new files o.items c name) puts.once ∙ stored.once (none-before m.fault fault none live none_now) name;
-    }
+      -- the machine with another run and output, and maybe a fault
+      abbrev become : List Token → List Token → Option Fault → Machine
+      become run output fault = record m { state = record m.state { run = run; output = output }; fault = fault }
 
-    macros_are : m.fault ≡ None → macros_at old names w.table c ≡ m.state.macros
-    macros_are no_fault = λ i. λ name. simulates.macros no_fault name i
+      simulates-next : (run output : List Token) (fault : Option Fault) → (is_none m.fault && none) ≡ is_none fault → (acts m && none) ≡ (m.active && is_none fault)
+          → option_to_list m.fault ++ map fault_of (held_at mid files faults_more c) ≡ option_to_list fault
+          → (fault ≡ None → RunAt new names files now.runs now.prepared.list c (become run output fault).state) → Simulates new names files next c (become run output fault)
+      simulates-next run output fault live acting fault_is text = subst (λ (v : Walk). Simulates new names files v c (become run output fault)) (sym ends.same) (record {
+        active = kept.active;
+        acting = ends.acting.at c (IsConfig-Keeps keeps listed) ∙ (ap (λ b. b && none) simulates.acting ∙ acting);
+        sections = kept.sections;
+        prepared = record { live = ends.live.at c (IsConfig-Keeps keeps listed) ∙ (ap (λ b. b && none) simulates.prepared.live ∙ live); fault = faults-now ∙ fault_is };
+        text = text;
+        macros = λ clean. kept.macros (none-before m.fault fault none live clean);
+        once = λ clean. kept.once (none-before m.fault fault none live clean);
+      })
 
-    expands-run : (r : Result (List Token) Fault) (no_fault : m.fault ≡ None) → TextExpands (macros_at old names w.table c) gathered-before r
-        → TextExpands m.state.macros m.state.run (behind_these (map token_of (simulates.text no_fault).out) r)
-    expands-run r no_fault x =
-        text-expands m.state gathered-before put-before (simulates.text no_fault) r (subst (λ macros. TextExpands macros gathered-before r) (macros_are no_fault) x)
+      module _ (acting : acts m ≡ true) where
+        here : old.has w.acting.0 c ≡ true
+        here = simulates.acting ∙ acting
 
-    module _ (acting : acts m ≡ true) where
-      no_fault : m.fault ≡ None
-      no_fault = fault-none m.active m.fault acting
+        no_fault : m.fault ≡ None
+        no_fault = fault-none m.active m.fault acting
 
-      live : is_none m.fault ≡ true
-      live = ap is_none no_fault
+        live : is_none m.fault ≡ true
+        live = ap is_none no_fault
 
-      no-run : shown (items_at new next.gathered c) ≡ []
-      no-run =
-          ap (λ xs. shown xs) (run-now
-          ∙ (ap (λ b. if (is_none m.fault && none) && not b then items_at mid w.gathered c else []) acting
-          ∙ ap (λ b. if b then items_at mid w.gathered c else []) (and_false (is_none m.fault && none))))
+        run-left : run_at new next.runs.read c ≡ []
+        run-left = ends.read.at c listed (simulates.prepared.live ∙ live) ∙ ap (λ b. if b then [] else run_at old w.runs.read c) here
 
-      abbrev put-first : List Token
-      put-first = map token_of (simulates.text no_fault).out
+        closes-ok : (output : List Token) → held_at mid files faults_more c ≡ [] → shown (items_at new now.prepared.list c) ≡ m.state.output ++ output → TextExpands m.state.macros m.state.run (Ok output)
+            → Arrives new names files next c (Closed m)
+        closes-ok output nothing put expands =
+            let all : none ≡ true = none-now ∙ ap is_empty nothing in
+            record {
+              machine = closing_run m (Ok output);
+              done = record { answer = Ok output; expands = λ _. expands; is = refl };
+              simulates = subst (Simulates new names files next c) (ap (λ b. record m { state = if b then put_out m.state output else m.state }) (sym acting))
+                  (simulates-next [] (m.state.output ++ output) m.fault (ap (λ b. is_none m.fault && b) all ∙ and_true (is_none m.fault)) (ap (λ b. acts m && b) all ∙ and_true (acts m))
+                  (ap (λ fs. option_to_list m.fault ++ map fault_of fs) nothing ∙ append-nil (option_to_list m.fault))
+                  (λ _. record { run = ap shown run-left; text = text-as (gathered-left true here) refl (held-left true here) (text-begins (put_out m.state output) [] (shown (items_at new now.prepared.list c)) refl put) }));
+            }
 
-      arrives-as : (r : Result (List Token) Fault) → Stands r (shown (items_at mid e.list c)) (map (seen_fault files) (faults_at mid e.faults.items c))
-          → Simulates new more files next c (closing_run m (behind_these put-first r))
-      arrives-as (Ok output) stands =
-          let all : none ≡ true = empty-seen (seen_fault files) (faults_at mid e.faults.items c) stands.1 in
-          subst (Simulates new more files next c) (ap (λ b. record m { state = if b then put_out m.state (put-first ++ output) else m.state }) (sym acting))
-          (simulates-next [] (m.state.output ++ (put-first ++ output)) m.fault
-          (ap (λ b. is_none m.fault && b) all ∙ and_true (is_none m.fault))
-          (ap (λ b. acts m && b) all ∙ and_true (acts m))
-          (ap (λ fs. option_to_list m.fault ++ fs) stands.1 ∙ append-nil (option_to_list m.fault))
-          (λ n. text-as no-run refl (text-closes m.state gathered-before put-before (simulates.text no_fault) output (shown (items_at new next.prepared.list c))
-          (put-now ∙ (ap (λ b. put-before ++ shown (if b && none then items_at mid e.list c else [])) live
-          ∙ (ap (λ b. put-before ++ shown (if b then items_at mid e.list c else [])) all ∙ ap (λ xs. put-before ++ xs) stands.0))))))
-      arrives-as (Err fault) stands =
-          let some : none ≡ false = some-seen (seen_fault files) (faults_at mid e.faults.items c) fault [] stands in
-          subst (Simulates new more files next c) (ap (λ b. record m { fault = if b then Some fault else m.fault }) (sym acting))
-          (simulates-next m.state.run m.state.output (Some fault)
-          (ap (λ b. is_none m.fault && b) some ∙ and_false (is_none m.fault))
-          (ap (λ b. acts m && b) some ∙ (and_false (acts m) ∙ sym (and_false m.active)))
-          (ap (λ fs. option_to_list m.fault ++ fs) stands ∙ ap (λ (o : Option Fault). option_to_list o ++ fault ∷ []) no_fault)
-          (λ n. absurd (cc)))
+        closes-err : (fault : Fault) → map fault_of (held_at mid files faults_more c) ≡ fault ∷ [] → TextExpands m.state.macros m.state.run (Err fault) → Arrives new names files next c (Closed m)
+        closes-err fault one expands =
+            let some : none ≡ false = none-now ∙ (empty-map fault_of (held_at mid files faults_more c) ∙ ap is_empty one) in
+            record {
+              machine = closing_run m (Err fault);
+              done = record { answer = Err fault; expands = λ _. expands; is = refl };
+              simulates = subst (Simulates new names files next c) (ap (λ b. record m { fault = if b then Some fault else m.fault }) (sym acting))
+                  (simulates-next m.state.run m.state.output (Some fault) (ap (λ b. is_none m.fault && b) some ∙ and_false (is_none m.fault)) (ap (λ b. acts m && b) some ∙ (and_false (acts m) ∙ sym (and_false m.active)))
+                  (ap (λ fs. option_to_list m.fault ++ fs) one ∙ ap (λ (o : Option Fault). option_to_list o ++ fault ∷ []) no_fault) (λ n. absurd (cc)));
+            }
 
-    arrives-idle : acts m ≡ false → Simulates new more files next c (closing_run m (Ok []))
-    arrives-idle idle =
-        let nothing = others c listed (simulates.acting ∙ idle) in
-        let all : none ≡ true = ap is_empty nothing.faults in
-        subst (Simulates new more files next c) (sym (inert_closing m (Ok []) idle))
-        (simulates-next m.state.run m.state.output m.fault
-        (ap (λ b. is_none m.fault && b) all ∙ and_true (is_none m.fault))
-        (ap (λ b. acts m && b) all ∙ and_true (acts m))
-        (ap (λ fs. option_to_list m.fault ++ map (seen_fault files) fs) nothing.faults ∙ append-nil (option_to_list m.fault))
-        (λ n. text-as (ap (λ xs. shown xs) (run-now
-        ∙ (ap (λ b. if (is_none m.fault && none) && not b then items_at mid w.gathered c else []) idle
-        ∙ (ap (λ b. if (is_none m.fault && b) && true then items_at mid w.gathered c else []) all
-        ∙ ap (λ (o : Option Fault). if (is_none o && true) && true then items_at mid w.gathered c else []) n)))
-        ∙ shown-before grows files keeps w.gathered c owns.gathered held.gathered listed)
-        (put-now ∙ (ap (λ xs. put-before ++ shown (if is_none m.fault && none then xs else [])) nothing.list
-        ∙ (ap (λ xs. put-before ++ shown xs) (if_same (is_none m.fault && none) []) ∙ append-nil put-before)))
-        (simulates.text n)))
+        closes-as : TextEnds m.state gathered (shown (items_at old w.prepared.list c)) (held_at old files w.runs.held.items c) → Arrives new names files next c (Closed m)
+        closes-as (puts out all clean expands) = by (is_several xs) refl
+          where
+            by : (several : Bool) → is_several xs ≡ several → Arrives new names files next c (Closed m)
+            by false few =
+                closes-ok (map token_of (out ++ gathered)) (told-now ∙ (λ i. unclosed-told true false here few i ++ (ended-told true here ∙ clean) i))
+                (put-now ∙ ((λ i. all i ++ list-told true false here few i) ∙ (append_assoc m.state.output (map token_of out) (map token_of gathered) ∙ ap (λ ts. m.state.output ++ ts) (sym (map-append token_of out gathered)))))
+                (subst (λ r. TextExpands m.state.macros m.state.run (text_of_answer (after_these out r))) (few-closed files names w.runs.sets xs few) expands)
+            by true many =
+                let unclosed = several-closed files names w.runs.sets xs many in
+                closes-err (fault_of unclosed.0)
+                (ap (map fault_of) (told-now ∙ ((λ i. unclosed-told true true here many i ++ (ended-told true here ∙ clean) i) ∙ (append-nil (map (moved_failure (seen_place files)) (map unclosed_at (take 1 xs))) ∙ unclosed.2))))
+                (subst (λ r. TextExpands m.state.macros m.state.run (text_of_answer (after_these out r))) unclosed.1 expands)
+        closes-as (fails failure one nothing expands) =
+            let few : is_several xs ≡ false = ap is_several (none-left (seen_hidden names w.runs.sets) xs (none-left (moved (seen_place files)) (map (seen_hidden names w.runs.sets) xs) nothing)) in
+            closes-err (fault_of failure) (ap (map fault_of) (told-now ∙ (λ i. unclosed-told true false here few i ++ (ended-told true here ∙ one) i))) expands
 
-    arrives : (b : Bool) → acts m ≡ b → Arrives new more files next c (Closed m)
-    arrives true acting =
-        let x = expands c listed (simulates.acting ∙ acting) in
-        record {
-          machine = closing_run m (behind_these (put-first acting) x.answer);
-          done = record { answer = behind_these (put-first acting) x.answer; expands = λ _. expands-run x.answer (no_fault acting) x.expands; is = refl };
-          simulates = arrives-as acting x.answer x.stands;
-        }
-    arrives false idle = record {
-      machine = closing_run m (Ok []);
-      done = record { answer = Ok []; expands = λ acting. absurd (true≢false (sym acting ∙ idle)); is = refl };
-      simulates = arrives-idle idle;
-    }
+        text-here : TextEnds m.state gathered (shown (items_at old w.prepared.list c)) (held_at old files w.runs.held.items c)
+        text-here =
+            let macros : macros_at old names w.table c ≡ m.state.macros = λ i name. simulates.macros no_fault name i in
+            text-ends (subst (λ ms. (gathered ≡ []) ⊎ ((held_at old files w.runs.held.items c ≡ []) × Expands place_alone ms gathered (closed gathered))) macros (settled c listed here)) (simulates.text no_fault).text
 
-  placed_answer : ArePlaced more (length files) e.list
-  placed_answer = λ k d h. record { held = answer.held k d h; file = answer.placed k d h }
+      idles : acts m ≡ false → Arrives new names files next c (Closed m)
+      idles idle =
+          let out = simulates.acting ∙ idle in
+          let nothing : held_at mid files faults_more c ≡ [] = told-now ∙ (λ i. unclosed-told false (is_several xs) out refl i ++ ended-told false out i) in
+          let all : none ≡ true = none-now ∙ ap is_empty nothing in
+          record {
+            machine = closing_run m (Ok []);
+            done = record { answer = Ok []; expands = λ acting. absurd (true≢false (sym acting ∙ idle)); is = refl };
+            simulates = subst (Simulates new names files next c) (sym (inert_closing m (Ok []) idle))
+                (simulates-next m.state.run m.state.output m.fault (ap (λ b. is_none m.fault && b) all ∙ and_true (is_none m.fault)) (ap (λ b. acts m && b) all ∙ and_true (acts m))
+                (ap (λ fs. option_to_list m.fault ++ map fault_of fs) nothing ∙ append-nil (option_to_list m.fault))
+                (λ clean. record {
+                  run = ap shown (ends.read.at c listed (simulates.prepared.live ∙ ap is_none clean) ∙ ap (λ b. if b then [] else run_at old w.runs.read c) out) ∙ (simulates.text clean).run;
+                  text = text-as (gathered-left false out) (put-now ∙ (ap (λ ts. shown (items_at old w.prepared.list c) ++ ts) (list-told false (is_several xs) out refl) ∙ append-nil (shown (items_at old w.prepared.list c)))) (held-left false out)
+                      (simulates.text clean).text;
+                }));
+          }
 
-  pub closes : SimulatesOneOf files names old w more new next (λ config m n. Closed m n)
-  closes =
-      let kept = owns-kept later w (owns-kept keeps w owns) in
-      let IsOwn : Cond × base_token.Token → Type 0 = λ item. IsCond new item.0.0 in
-      let IsOwnFault : base.Fault → Type 0 = λ f. IsCond new f.cond.0 in
-      record {
-        owns = record {
-          group = subst (λ (g : Cond). IsCond new g.0) (sym puts.group) kept.group;
-          acting = puts.acting.own;
-          sections = subst (λ (v : Vec Section Global). All (OwnsSection new) v.items) (sym puts.sections) kept.sections;
-          gathered = puts.gathered.part.own;
-          once = subst (λ (o : Vec OnceFile Global). OwnsOnce new o.items) (sym puts.once) kept.once;
-          prepared = record {
-            list = subst (All IsOwn) (sym puts.list) (All-append IsOwn w.prepared.list puts.added kept.prepared.list puts.put.part.own);
-            faults = subst (All IsOwnFault) (sym puts.faults) (All-append IsOwnFault w.prepared.faults.items e.faults.items kept.prepared.faults (λ k d h. later.own _ (answer.faults_own k d h)));
-            live = puts.live.own;
-          };
+      closes-at : (b : Bool) → acts m ≡ b → Arrives new names files next c (Closed m)
+      closes-at true acting = closes-as acting (text-here acting)
+      closes-at false idle = idles idle
+
+      -- what is put out is spelled on one line
+      put-plain : IsPlainState m.state → (acting : acts m ≡ true) → TextEnds m.state gathered (shown (items_at old w.prepared.list c)) (held_at old files w.runs.held.items c)
+          → All (λ (t : base_token.Token). is_plain names t ≡ true) (items_at mid ends.e.list c)
+      put-plain plain acting (puts out all clean expands) =
+          let line = text-plain m.state plain.macros plain.run gathered _ _ clean (simulates.text (no_fault acting)).text in
+          plain-seen names files (items_at mid ends.e.list c) _ (list-told true (is_several xs) (here acting) refl)
+          (if-all PlainToken (not (is_several xs)) (map token_of gathered)
+          (All-map PlainToken token_of gathered (All-weaker (IsOneLine place_alone) (λ (t : Hidden Place). has_no_newline t.spelling ≡ true) (λ t h. h.spelling) gathered line)))
+      put-plain plain acting (fails failure one nothing expands) =
+          plain-seen names files (items_at mid ends.e.list c) _ (list-told true (is_several xs) (here acting) refl)
+          (if-all PlainToken (not (is_several xs)) (map token_of gathered) (subst (All PlainToken) (sym (ap (map token_of) nothing)) (All-nil PlainToken)))
+
+    plain-at : PlainEach old names files w any_machine → (b : Bool) → old.has w.acting.0 c ≡ b → All (λ (t : base_token.Token). is_plain names t ≡ true) (items_at mid ends.e.list c)
+    plain-at each true acting =
+        let at = each.each c listed in
+        let does = sym at.1.acting ∙ acting in
+        put-plain at.0 at.1 at.3 does (text-here at.0 at.1 does)
+    plain-at each false idle = plain-seen names files (items_at mid ends.e.list c) [] (list-told false (is_several xs) idle refl) (All-nil PlainToken)
+
+  owned : Owns new next
+  owned =
+      let was = owns-kept keeps w stored.owns in
+      let T : Cond × base_token.Token → Type 0 = λ item. IsCond new item.0.0 in
+      let F : base.Fault → Type 0 = λ f. IsCond new f.cond.0 in
+      subst (Owns new) (sym ends.same) (record {
+        group = was.group;
+        acting = ends.acting.own;
+        sections = was.sections;
+        runs = record { gathered = ends.gathered.part.own; held = faults-All (λ (item : Cond × Failure base_place.Place). IsCond new item.0.0) next.runs.held.items ends.held.part.own; read = ends.read.own };
+        once = was.once;
+        prepared = record {
+          list = All-append T w.prepared.list ends.e.list was.prepared.list (λ k d h. ends.later.own _ (ends.closed.own k d h));
+          faults = subst (All F) (sym ends.faults) (All-append F w.prepared.faults.items faults_more was.prepared.faults (λ k d h. ends.later.own _ (own-more k d h)));
+          live = ends.live.own;
         };
-        table = subst (IsTable new more) (sym puts.table) (IsTable-Keeps later (IsTable-Extends grows (IsTable-Keeps keeps is)));
-        at = λ config m listed simulates. arrives config m listed simulates (acts m) refl;
-      }
+      })
 
-  pub closed-held : IsHeldWalk more (length files) any_token next
-  closed-held =
-      let Q : base.Fault → Type 0 = λ f. f.place.file.0 < length files in
-      record {
-        gathered = puts.gathered.part.placed more (length files) (list-grown grows (length files) w.gathered held.gathered);
-        list =
-            let P : Cond × base_token.Token → Type 0 = λ item. IsPlaced more (length files) item.1 in
-            subst (All P) (sym puts.list)
-            (All-append P w.prepared.list puts.added (list-grown grows (length files) w.prepared.list held.list) (puts.put.part.placed more (length files) placed_answer));
+  still-held : IsHeldWalk names (length files) any_token next
+  still-held =
+      let was = stored.held in
+      let H : base_hidden.Hidden → Type 0 = λ h. IsHeldHidden names w.runs.sets h × (h.token.place.file.0 < length files) in
+      let P : Cond × base_token.Token → Type 0 = λ item. IsPlaced names (length files) item.1 in
+      let F : base.Fault → Type 0 = λ f. f.place.file.0 < length files in
+      let IsThere : Failure base_place.Place → Type 0 = λ failure. failure.place.file.0 < length files in
+      let failures : All (λ (item : Cond × Failure base_place.Place). item.1.place.file.0 < length files) (fault_items w.runs.held.items)
+      = All-map (λ (item : Cond × Failure base_place.Place). item.1.place.file.0 < length files) (λ (f : base.Fault). (f.cond, seen_failure f)) w.runs.held.items was.runs.held in
+      let listed : (fs : List base.Fault) → All (λ (item : Cond × Failure base_place.Place). item.1.place.file.0 < length files) (fault_items fs) → All F fs = faults-All (λ (item : Cond × Failure base_place.Place). item.1.place.file.0 < length files) in
+      let placed = ends.closed.placed (length files) (λ k d h. (was.runs.gathered k d h).1) in
+      let tokens = ends.closed.held names (λ k d h. (was.runs.gathered k d h).0.token) in
+      subst (IsHeldWalk names (length files) any_token) (sym ends.same) (record {
+        runs = record {
+          gathered = part-All H ends.gathered.part was.runs.gathered;
+          held = listed next.runs.held.items (part-All IsThere ends.held.part failures);
+          read = ended-tokens (All (IsPlaced names (length files))) ends.read (All-nil (IsPlaced names (length files))) was.runs.read;
+        };
+        list = All-append P w.prepared.list ends.e.list was.list (λ k d h. record { held = tokens k d h; file = placed k d h });
         passed = λ k d h. refl;
-        faults = subst (All Q) (sym puts.faults) (All-append Q w.prepared.faults.items e.faults.items held.faults answer.faults_placed);
-        once = subst (λ (o : Vec OnceFile Global). AreOnceHeld (length files) o.items) (sym puts.once) held.once;
-      }
+        faults = subst (All F) (sym ends.faults) (All-append F w.prepared.faults.items faults_more was.faults (All-append F ends.e.faults.items ends.ended
+            (ends.closed.faults_placed (length files) (λ k d h. (was.runs.gathered k d h).1)) (listed ends.ended (part-All IsThere ends.ends.part failures))));
+        once = was.once;
+      })
 
-  -- ---- what was put out is spelled on one line
-
-  module _ (plain : ClosesPlain old names files w) where
-    chosen-plain : (c : List ℕ) → IsConfig old.arities c → (b : Bool) (r : Result (List Token) Fault)
-        → Stands r (map (seen more files) (items_at mid e.list c)) (map (seen_fault files) (faults_at mid e.faults.items c))
-        → (b ≡ true → (output : List Token) → r ≡ Ok output → All (λ (t : Token). has_no_newline t.spelling ≡ true) output)
-        → All (λ (t : base_token.Token). is_plain more t ≡ true) (if b && has_none mid e.faults.items c then items_at mid e.list c else [])
-    chosen-plain c listed false r stands all = All-nil (λ (t : base_token.Token). is_plain more t ≡ true)
-    chosen-plain c listed true (Ok output) stands all =
-        if-all (λ (t : base_token.Token). is_plain more t ≡ true) (has_none mid e.faults.items c) (items_at mid e.list c) (plain-seen more files (items_at mid e.list c) output stands.0 (all refl output refl))
-    chosen-plain c listed true (Err fault) stands all =
-        let some = some-seen (seen_fault files) (faults_at mid e.faults.items c) fault [] stands in
-        subst (λ xs. All (λ (t : base_token.Token). is_plain more t ≡ true) xs) (sym (ap (λ n. if n then items_at mid e.list c else []) some)) (All-nil (λ (t : base_token.Token). is_plain more t ≡ true))
-
-    added-plain : (c : List ℕ) → IsConfig old.arities c → (b : Bool) → old.has w.acting.0 c ≡ b
-        → All (λ (t : base_token.Token). is_plain more t ≡ true) (if mid.has w.prepared.live.0 c && has_none mid e.faults.items c then items_at mid e.list c else [])
-    added-plain c listed true acting =
-        let x = expands c listed acting in
-        chosen-plain c listed (mid.has w.prepared.live.0 c) x.answer x.stands
-        (λ live output is_ok. plain c listed (sym (keeps.at w.prepared.live.0 c owns.prepared.live listed) ∙ live) output (subst (TextExpands (macros_at old names w.table c) (map (seen names files) (items_at old w.gathered c))) is_ok x.expands))
-    added-plain c listed false idle =
-        if-all (λ (t : base_token.Token). is_plain more t ≡ true) (mid.has w.prepared.live.0 c && has_none mid e.faults.items c) (items_at mid e.list c)
-        (subst (λ xs. All (λ (t : base_token.Token). is_plain more t ≡ true) xs) (sym (others c listed idle).list) (All-nil (λ (t : base_token.Token). is_plain more t ≡ true)))
-
-    pub closed-plain : AllPass (is_plain names) w.prepared.list → AllPass (is_plain more) next.prepared.list
-    closed-plain was =
-        let Q : Cond × base_token.Token → Type 0 = λ item. is_plain more item.1 ≡ true in
-        subst (All Q) (sym puts.list)
-        (All-append Q w.prepared.list puts.added (plain-grown grows (length files) w.prepared.list held.list was)
-        (plain-by new more puts.added
-        (λ c now.
-        let listed = IsConfig-kept keeps (IsConfig-kept later now) in
-        subst (λ xs. All (λ (t : base_token.Token). is_plain more t ≡ true) xs) (sym (puts.put.at c (IsConfig-kept later now))) (added-plain c listed (old.has w.acting.0 c) refl))
-        puts.put.part.some))
+  pub ended-stage : LineStage files names old w [] names new next (λ config m n. Closed m n)
+  ended-stage = record {
+    simulates = record {
+      owns = owned;
+      table = subst (λ (v : Walk). IsTable new names v.table) (sym ends.same) (IsTable-Keeps keeps stored.table);
+      at = λ c m listed simulates. closes-at c listed m simulates (acts m) refl;
+    };
+    held = still-held;
+    plain = λ each was. subst (λ (v : Walk). AllPass (is_plain names) v.prepared.list) (sym ends.same)
+        (All-append (λ (item : Cond × base_token.Token). is_plain names item.1 ≡ true) w.prepared.list ends.e.list was
+        (plain-by mid names ends.e.list (λ c listed. let was = IsConfig-kept ends.until listed in plain-at c was each (old.has w.acting.0 c) refl) ends.closed.some));
+    gathers = gathers-ended w next ends.read;
+  }

@@ -7,9 +7,9 @@ use Rattle.sc_prep.proofs.BetweenRuns.{enters-run}
 use Rattle.sc_prep.proofs.EnterMoves.{acts-unfaulty, arrived-at, begins-idle, begins-start, entering, idle, not-entered, put-before, put-inside, refused-at, refused-here, refused-not, refuses-inside, resumed, resumes}
 use Rattle.sc_prep.proofs.Facts.{IsConfig-Keeps, IsConfig-kept, IsTable-Keeps, Keeps-trans, and_parts, items_at-Keeps}
 use Rattle.sc_prep.proofs.FileWalk.{LeftBy, covers-entered, covers-idle}
-use Rattle.sc_prep.proofs.NamedFiles.{items-later, simulates-later}
-use Rattle.sc_prep.proofs.SettledText.{nothing-settled, text-as, text-empty}
-use Rattle.sc_prep.proofs.Terms.{AllPass, Around, Begins, Cause, Cond, Content, Contents, Context, Denotes, Enters, EntersAt, Entry, Extends, Fault, File, FileId, FileLines, Files, HasText, IsCond, IsConfig, IsHeldWalk, IsNever, IsPlainState, IsTable, Keeps, Leaves, Machine, RefusesEach, Sets, Standard, State, Walk, acts, any_token, arriving, back, enters, file_lines, file_with, has_no_newline, is_once_file, is_plain, items_at, lines_of, once_at, result_map, seen, seen_fault, seen_lines, start, text_at}
+use Rattle.sc_prep.proofs.Grown.{items-later, simulates-later}
+use Rattle.sc_prep.proofs.Terms.{AllPass, Around, Begins, Cause, Cond, Content, Contents, Context, Denotes, Enters, EntersAt, Entry, Extends, Fault, File, FileId, FileLines, Files, IsCond, IsConfig, IsHeldWalk, IsNever, IsPlainState, IsTable, Keeps, Leaves, Machine, RefusesEach, RunAt, Sets, Standard, State, Walk, acts, any_token, arriving, back, enters, file_lines, file_with, has_no_newline, is_once_file, is_plain, items_at, lines_of, once_at, result_map, seen, seen_fault, seen_lines, start, text_at}
+use Rattle.sc_prep.proofs.Texts.{run-anew, run-listed}
 use Rattle.sc_prep.proofs.WalkMoves.{owns-kept, sections-kept, simulates-kept}
 use Rattle.sc_prep.specs.Contents.{Agrees, AreContents, AreHeldLines, AreLinesOf, IsContent, IsHeldContent, RefusesAll, content_at, nested, refused}
 use Rattle.sc_prep.specs.Simulates as simulates
@@ -153,14 +153,11 @@ module _ {old mid : Sets} {names : List (List ℕ)} {w : Walk} {within : Cond} (
         abbrev first : State
         first = entering entry.depth (text_at files entry.file.0) m.state
 
-        abbrev gathered-then : List Token
-        gathered-then = map (seen more more_files) (items_at new around.gathered config)
-
-        -- what was gathered around the file
-        waiting : m.fault ≡ None → HasText m.state gathered-then (map (seen more more_files) (items_at new w.prepared.list config))
+        -- the runs around the file
+        waiting : m.fault ≡ None → RunAt new more more_files around.runs w.prepared.list config m.state
         waiting none =
             let all = Keeps-trans whole latest in
-            text-as (ap (λ (a : Around). map (seen more more_files) (items_at new a.gathered config)) begins.around_is) refl
+            subst (λ (a : Around). RunAt new more more_files a.runs w.prepared.list config m.state) (sym begins.around_is)
             ((simulates-later grows files_grow new w config m (IsTable-Keeps all is) held (simulates-kept all w owns names files config m listed is at)).text none)
 
         -- what was put out before the file
@@ -176,10 +173,9 @@ module _ {old mid : Sets} {names : List (List ℕ)} {w : Walk} {within : Cond} (
               put-inside latest more more_files walked next around leaves walked_owns walked_is around-group around-sections config (IsConfig-Keeps whole listed) m n there
               group-then sections-then none unrun
 
-          goes-on : (run output : List Token) → (n.fault ≡ None → HasText (resumed m n run output).state gathered-then n.state.output) → Simulates new more more_files next config (resumed m n run output)
+          goes-on : (run output : List Token) → (n.fault ≡ None → RunAt new more more_files around.runs walked.prepared.list config (resumed m n run output).state) → Simulates new more more_files next config (resumed m n run output)
           goes-on run output text =
-              resumes latest more more_files walked next around leaves walked_owns walked_is around-group around-sections config (IsConfig-Keeps whole listed) m n there
-              group-then sections-then run output (λ none. text-as refl (put-last none) (text none))
+              resumes latest more more_files walked next around leaves walked_owns walked_is around-group around-sections config (IsConfig-Keeps whole listed) m n there group-then sections-then run output text
 
         left-by : IsBetweenRuns m → (n : Machine) → Simulates last more more_files walked config n → mid.has within.0 config ≡ true → (e : Result State Fault)
             → Enters x file (record m.state { depth = entry.depth }) e → LeftBy e n → Arrives new more more_files next config (EntersFile x config m)
@@ -191,8 +187,7 @@ module _ {old mid : Sets} {names : List (List ℕ)} {w : Walk} {within : Cond} (
               done = enters-file config m listed at x (text_at files entry.file.0) has.bytes refl has.is (Ok t) entered here;
               simulates = subst (Simulates new more more_files next config) (arrived-at x (text_at files entry.file.0) entry.depth m n t both.1 left)
                   (goes-on n there unrun n.state.run n.state.output
-                  (λ none. nothing-settled (resumed m n n.state.run n.state.output).state gathered-then n.state.output
-                  (unrun ∙ sym (text-empty m.state gathered-then _ (between both.1) (waiting (acts-unfaulty m both.1))).0) refl));
+                  (λ none. run-anew m.state (resumed m n n.state.run n.state.output).state (between both.1) unrun (put-last n there unrun none) (waiting (acts-unfaulty m both.1))));
             }
         left-by between n there here (Err fault) entered left =
             let both = both-enter config m listed at here in
@@ -218,8 +213,9 @@ module _ {old mid : Sets} {names : List (List ℕ)} {w : Walk} {within : Cond} (
             record {
               machine = m;
               done = enters-not config m listed at x out;
-              simulates = goes-on (idle m output) (subst (Simulates last more more_files walked config) still after.simulates) refl m.state.run m.state.output
-                  (λ none. text-as refl (sym put-then) (waiting none));
+              simulates =
+                  let there = subst (Simulates last more more_files walked config) still after.simulates in
+                  goes-on (idle m output) there refl m.state.run m.state.output (λ none. run-listed (put-last (idle m output) there refl none ∙ sym put-then) (waiting none));
             }
 
       pub leads-inside : Leads files names old w more_files more new next IsBetweenRuns (EntersFile x)

@@ -4,8 +4,9 @@ use Rattle.sc_base.specs.declared.fault.Fault as base
 use Rattle.sc_model.specs.Token.{Token}
 use Rattle.sc_prep.proofs.Facts.{IsConfig-Keeps, faults_at-append, map-append}
 use Rattle.sc_prep.proofs.Machine.{after}
-use Rattle.sc_prep.proofs.SettledText.{nothing-settled, text-empty}
-use Rattle.sc_prep.proofs.Terms.{Around, Begins, Cond, Context, Fault, HasText, IsBetweenRuns, IsCond, IsConfig, IsTable, Keeps, Leaves, Machine, Owns, OwnsSection, RefusesEach, Sets, Simulates, State, Walk, acts, arriving, back, faults_at, has_none, is_empty, is_once_file, items_at, option_to_list, section_at, seen, seen_fault, start}
+use Rattle.sc_prep.proofs.SettledText.{text-empty}
+use Rattle.sc_prep.proofs.Terms.{Around, Begins, Cond, Context, Fault, IsBetweenRuns, IsCond, IsConfig, IsTable, Keeps, Leaves, Machine, Owns, OwnsSection, RefusesEach, RunAt, Sets, Simulates, State, Walk, acts, arriving, back, faults_at, has_none, is_empty, is_once_file, items_at, option_to_list, section_at, seen, seen_fault, start}
+use Rattle.sc_prep.proofs.Texts.{run-empty}
 use Rattle.sc_prep.proofs.WalkMoves.{simulates-kept, sections-kept}
 use Rattle.sc_prep.specs.Includes.{EntersAt, elsewhere, inert, left_out}
 
@@ -33,11 +34,14 @@ resumed m n run output = record n { active = m.active; sections = m.sections; st
 -- before the first line of the file
 module _ (s : Sets) (names files : List (List ℕ)) (w next : Walk) (within : Cond) (around : Around) (config : List ℕ) (m : Machine)
     (begins : Begins w within next around) (at : Simulates s names files w config m) where
-  none-open : map (section_at s config) (reverse next.sections.items) ≡ []
-  none-open = ap (λ xs. map (section_at s config) (reverse xs)) begins.sections
-
   abbrev pub put-before : List Token
   put-before = map (seen names files) (items_at s w.prepared.list config)
+
+  run-begins : (state : State) → state.run ≡ [] → put-before ≡ state.output → RunAt s names files next.runs w.prepared.list config state
+  run-begins state empty same = run-empty state begins.gathered begins.held begins.read empty same
+
+  none-open : map (section_at s config) (reverse next.sections.items) ≡ []
+  none-open = ap (λ xs. map (section_at s config) (reverse xs)) begins.sections
 
   pub begins-idle : s.has within.0 config ≡ false → Simulates s names files next config (idle m put-before)
   begins-idle out = subst (λ (v : Walk). Simulates s names files v config (idle m put-before)) (sym begins.is) (record {
@@ -45,7 +49,7 @@ module _ (s : Sets) (names files : List (List ℕ)) (w next : Walk) (within : Co
     acting = out;
     sections = none-open;
     prepared = record { live = at.prepared.live; fault = at.prepared.fault };
-    text = λ none. nothing-settled (idle m put-before).state [] put-before refl refl;
+    text = λ none. run-begins (idle m put-before).state refl refl;
     macros = at.macros;
     once = at.once;
   })
@@ -58,8 +62,7 @@ module _ (s : Sets) (names files : List (List ℕ)) (w next : Walk) (within : Co
         acting = here;
         sections = none-open;
         prepared = record { live = at.prepared.live ∙ ap is_none none; fault = at.prepared.fault ∙ ap option_to_list none };
-        text = λ _. nothing-settled (entering depth name m.state) [] put-before (between acting)
-            (text-empty m.state (map (seen names files) (items_at s w.gathered config)) put-before (between acting) (at.text none)).1;
+        text = λ _. run-begins (entering depth name m.state) (between acting) (text-empty m.state _ _ _ (between acting) (at.text none).text).1;
         macros = λ _. at.macros none;
         once = λ _. at.once none;
       })
@@ -86,10 +89,10 @@ module _ {old new : Sets} (keeps : Keeps old new) (names files : List (List ℕ)
 
     -- what was put out in the file where its run was closed
     pub put-inside : n.fault ≡ None → n.state.run ≡ [] → put-now ≡ n.state.output
-    put-inside none unrun = (text-empty n.state (map (seen names files) (items_at new w.gathered config)) put-now unrun (kept.text none)).1
+    put-inside none unrun = (text-empty n.state _ put-now _ unrun (kept.text none).text).1
 
-    -- the machine goes on in the state around, with the text that was gathered there
-    pub resumes : (run output : List Token) → (n.fault ≡ None → HasText (resumed m n run output).state (map (seen names files) (items_at new around.gathered config)) put-now)
+    -- the machine goes on in the state around, with the text that was read there
+    pub resumes : (run output : List Token) → (n.fault ≡ None → RunAt new names files around.runs w.prepared.list config (resumed m n run output).state)
         → Simulates new names files next config (resumed m n run output)
     resumes run output text = subst (λ (v : Walk). Simulates new names files v config (resumed m n run output)) (sym leaves.is) (record {
       active = active-now;

@@ -2,7 +2,7 @@
 use Rattle.std.proofs.Common.{◌≡◌, ℕ, ◌<◌, ◌≤◌, ◌||◌, true, List, [], ◌∷◌, All, length, map, Option, Some, None, sym, ap, ◌∙◌, subst, arith, slice_get}
 use Rattle.sc_base.specs.declared.fault.Fault as base
 use Rattle.sc_prep.proofs.Facts.{All-cons, All-nil, All-weaker, and_parts, length-map, lexed-plain}
-use Rattle.sc_prep.proofs.Terms.{AllPass, AreApart, AreHeld, ArePlainPaths, AreTokensOf, CanBeShown, Fault, FileId, IsHeld, IsPlaced, IsPlainOrNewline, Lexeme, OwnsList, Prepared, Sets, Token, any_token, faults_at, has_no_newline, is_newline, is_plain, lexeme_at, list_all, option_map, option_to_list, position_of, seen_fault, unwrap_or}
+use Rattle.sc_prep.proofs.Terms.{AllPass, AreApart, ArePlaced, ArePlainPaths, AreTokensOf, CanBeShown, Fault, FileId, IsHeld, IsPlaced, IsPlainOrNewline, Lexeme, OwnsList, Prepared, Sets, Token, faults_at, has_no_newline, is_newline, is_plain, lexeme_at, list_all, option_map, option_to_list, position_of, seen_fault, unwrap_or}
 
 -- what the token's spelling is like, seen through the table
 plain_by : (t : Token) (l : Lexeme) (o : Option (List ℕ)) → option_map (λ s. record { kind = t.kind; spelling = s; space = t.space; position = position_of t.place }) o ≡ Some l
@@ -34,11 +34,11 @@ module _ (names : List (List ℕ)) (file : FileId) where
     file-placed files there held = λ k d h. record { held = held k d h; file = file-in (λ f. f.0 < files) there k d h }
 
 -- all that stands in files of the table can be shown
-pub all-shown : (s : Sets) (names files : List (List ℕ)) (p : Prepared) → OwnsList s p → AreHeld names (length files) any_token [] [] p → AllPass (is_plain names) p.list → AreApart s p.faults.items
+pub all-shown : (s : Sets) (names files : List (List ℕ)) (p : Prepared) → OwnsList s p → ArePlaced names (length files) p.list → All (λ (f : base.Fault). f.place.file.0 < length files) p.faults.items → AllPass (is_plain names) p.list → AreApart s p.faults.items
     → ArePlainPaths files → CanBeShown s names files p
-all-shown s names files p owns held plain apart paths = record {
-  list = λ k d h. record { own = owns.list k d h; held = (held.list k d h).held; file = (held.list k d h).file; plain = plain k d h };
-  faults = λ k d h. record { own = owns.faults k d h; file = held.faults k d h };
+all-shown s names files p owns placed there plain apart paths = record {
+  list = λ k d h. record { own = owns.list k d h; held = (placed k d h).held; file = (placed k d h).file; plain = plain k d h };
+  faults = λ k d h. record { own = owns.faults k d h; file = there k d h };
   apart = apart;
   paths = paths;
 }

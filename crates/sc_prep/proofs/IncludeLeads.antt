@@ -2,7 +2,7 @@
 use Rattle.std.proofs.Common.{◌≡◌, ℕ, zero, suc, ◌+◌, ◌<◌, ◌≤◌, drop, true, List, [], ◌∷◌, All, length, get_or, Option, Some, if◌then◌else◌, refl, sym, ap, ◌∙◌, subst, arith, map}
 use Rattle.c11_directives.specs.declared.directive.Directive.TheVariants as directive
 use Rattle.sc_base.specs.declared.token.Token as base
-use Rattle.sc_prep.proofs.CloseMoves.{plain-grown}
+use Rattle.sc_prep.proofs.Grown.{plain-grown}
 use Rattle.sc_prep.proofs.Facts.{All-drop, All-map, All-weaker, Extends-refl, IsConfig-Keeps, items_at-Keeps}
 use Rattle.sc_prep.proofs.Going.{Gone, Staged, closed-in, directories-plain, finds-staged, gone-then, line-later, staged-between, staged-plain, staged-takes, staged-then}
 use Rattle.sc_prep.proofs.LeadMoves.{contents-stay, leads-as, leads-one}

@@ -4,7 +4,8 @@ use Rattle.sc_base.specs.declared.fault.Fault as base
 use Rattle.sc_prep.proofs.Contents.{contents-later}
 use Rattle.sc_prep.proofs.Facts.{All-nil, All-push, Extends-refl, IfErr-weaker, IsConfig-Keeps, IsTable-Keeps, slice_get-get_or, unwrap_or-slice_get}
 use Rattle.sc_prep.proofs.Held.{refused-held}
-use Rattle.sc_prep.proofs.Terms.{AreContents, Around, Begins, BranchesFull, Cond, Content, Contents, Extends, Files, IsCond, IsConfig, IsHeldWalk, IsPlaced, IsReady, IsStored, IsTable, Keeps, KeepsContents, Leads, Leaves, Machine, OutOfMemory, Owns, OwnsSection, ReadFault, RefusesEach, Sets, Simulates, SimulatesOneOf, Standard, Stop, Stops, StopsBy, Walk, any_token, content_at, text_at}
+use Rattle.sc_prep.proofs.Terms.{AreContents, Around, Begins, BranchesFull, Cond, Content, Contents, Extends, Files, IsCond, IsConfig, IsHeldWalk, IsReady, IsStored, IsTable, Keeps, KeepsContents, Leads, Leaves, Machine, OutOfMemory, Owns, OwnsSection, ReadFault, RefusesEach, Sets, Simulates, SimulatesOneOf, Standard, Stop, Stops, StopsBy, Walk, any_token, content_at, text_at}
+use Rattle.sc_prep.proofs.Texts.{holds-none, owns-none}
 use Rattle.sc_prep.proofs.WalkMoves.{owns-kept}
 
 -- ---- what was kept of files
@@ -34,10 +35,10 @@ module _ {standard : Standard} {old new : Sets} {names files : List (List ℕ)} 
       let back = owns-kept keeps from owns in
       let kept = owns-kept keeps w ready.owns in
       subst (λ (v : Walk). IsReady standard new names files holds v contents) (sym leaves.is)
-      (subst (λ (a : Around). IsReady standard new names files holds (record w { group = a.group; acting = next.acting; sections = a.sections; gathered = a.gathered }) contents) (sym begins.around_is) (record {
-        owns = record { group = back.group; acting = leaves.acting.own; sections = back.sections; gathered = back.gathered; once = kept.once; prepared = kept.prepared };
+      (subst (λ (a : Around). IsReady standard new names files holds (record w { group = a.group; acting = next.acting; sections = a.sections; runs = a.runs }) contents) (sym begins.around_is) (record {
+        owns = record { group = back.group; acting = leaves.acting.own; sections = back.sections; runs = back.runs; once = kept.once; prepared = kept.prepared };
         table = IsTable-Keeps keeps ready.table;
-        held = record { gathered = held.gathered; list = ready.held.list; passed = ready.held.passed; faults = ready.held.faults; once = ready.held.once };
+        held = record { runs = held.runs; list = ready.held.list; passed = ready.held.passed; faults = ready.held.faults; once = ready.held.once };
         read = ready.read;
       }))
 
@@ -51,7 +52,7 @@ module _ {standard : Standard} {old new : Sets} {names files : List (List ℕ)} 
           group = kept.group;
           acting = refuses.acting.own;
           sections = kept.sections;
-          gathered = kept.gathered;
+          runs = kept.runs;
           once = kept.once;
           prepared = record {
             list = kept.prepared.list;
@@ -71,12 +72,12 @@ ready-begun {standard} {s} {names} {files} {holds} {w} {next} {contents} begins 
     group = own;
     acting = own;
     sections = subst (All (OwnsSection s)) (sym begins.sections) (All-nil (OwnsSection s));
-    gathered = All-nil (λ item. IsCond s item.0.0);
+    runs = owns-none begins.gathered begins.held begins.read s;
     once = ready.owns.once;
     prepared = ready.owns.prepared;
   };
   table = ready.table;
-  held = record { gathered = All-nil (λ item. IsPlaced names (length files) item.1); list = ready.held.list; passed = ready.held.passed; faults = ready.held.faults; once = ready.held.once };
+  held = record { runs = holds-none begins.gathered begins.held begins.read names (length files); list = ready.held.list; passed = ready.held.passed; faults = ready.held.faults; once = ready.held.once };
   read = ready.read;
 })
 

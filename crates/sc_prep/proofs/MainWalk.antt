@@ -1,10 +1,9 @@
 -- What walking the main file comes to.
-use Rattle.std.proofs.Common.{◌≡◌, ℕ, true, List, [], ◌∷◌, map, Some, None, Ok, Err, refl, sym, ap, ◌∙◌}
-use Rattle.sc_model.specs.Token.{Token}
+use Rattle.std.proofs.Common.{◌≡◌, ℕ, true, List, [], ◌∷◌, Some, None, Ok, Err, refl, sym, ap, ◌∙◌}
 use Rattle.sc_prep.proofs.BetweenRuns.{enters-run}
 use Rattle.sc_prep.proofs.Facts.{macros_at-Extends}
 use Rattle.sc_prep.proofs.SettledText.{text-empty}
-use Rattle.sc_prep.proofs.Terms.{Enters, Extends, Fault, File, Files, HasText, Includes, IsBegun, IsOrdinary, IsOutcomeOf, IsRefused, IsTable, Machine, MacroTable, NotFound, Pre, Prepared, Sets, Space, context_of, entered, fault_at, file_with, first_place, found_or, initial_macros, initial_state, items_at, macros_at, missing, search, seen, start}
+use Rattle.sc_prep.proofs.Terms.{Enters, Extends, Fault, File, Files, Includes, IsBegun, IsOrdinary, IsOutcomeOf, IsRefused, IsTable, Machine, MacroTable, NotFound, OpenRuns, Pre, Prepared, RunAt, Sets, Space, context_of, entered, fault_at, file_with, first_place, found_or, initial_macros, initial_state, macros_at, missing, search, start}
 use Rattle.sc_prep.specs.Includes.{EntersAt, inert, left_out, enters}
 
 -- the main file is found
@@ -32,17 +31,17 @@ module _ (s : Sets) (names files : List (List ℕ)) (p : Prepared) (space : Spac
 
   -- the main file was entered
   pub entered-ordinary : {n : Machine} → EntersAt (context_of space outside) main 0 (start (initial_state space main config)) true n → IsOutcomeOf s files p config n
-      → (gathered : List Token) → (n.fault ≡ None → HasText n.state gathered (map (seen names files) (items_at s p.list config)))
+      → (runs : OpenRuns) → (n.fault ≡ None → RunAt s names files runs p.list config n.state)
       → IsOrdinary s names files p (Pre space outside main config) config
-  entered-ordinary (inert inactive) outcome gathered text = cc
-  entered-ordinary (left_out acting once) outcome gathered text = cc
-  entered-ordinary (enters f (Ok t) acting named there again walks) outcome gathered text = record {
+  entered-ordinary (inert inactive) outcome runs text = cc
+  entered-ordinary (left_out acting once) outcome runs text = cc
+  entered-ordinary (enters f (Ok t) acting named there again walks) outcome runs text = record {
     answer = Ok t.output;
     preprocessed = record { end = Ok t; walked = includes-main f named there walks; is = refl };
-    stands = ((text-empty _ gathered _ (enters-run walks) (text refl)).1, outcome.fault);
+    stands = ((text-empty _ _ _ _ (enters-run walks) (text refl).text).1, outcome.fault);
     live = outcome.live;
   }
-  entered-ordinary (enters f (Err fault) acting named there again walks) outcome gathered text = record {
+  entered-ordinary (enters f (Err fault) acting named there again walks) outcome runs text = record {
     answer = Err fault;
     preprocessed = record { end = Err fault; walked = includes-main f named there walks; is = refl };
     stands = outcome.fault;

@@ -8,7 +8,7 @@ use Rattle.sc_expand.specs.Footprints.{IsSameUse, ReplacesAt, StopsAtName, UsesA
 use Rattle.sc_expand.specs.Having.{behind_at}
 use Rattle.sc_model.specs.Token.{Place, Token}
 use Rattle.sc_prep.proofs.ApartLemmas.{pairs-drop, pairs-head, pairs-tail}
-use Rattle.sc_prep.proofs.CloseMoves.{items_at-All}
+use Rattle.sc_prep.proofs.Texts.{items_at-All}
 use Rattle.sc_prep.proofs.Facts.{All-cons, All-head, All-map, All-nil, All-tail, All-take, AllPairs-cons, length-map, map-map, one-use, take-nil}
 use Rattle.sc_prep.proofs.Terms.{Agree, AreDifferent, Arrives, BranchesFull, Cond, Definition, Failure, Footprint, Hidden, IsConfig, Macros, NameHas, Other, OutOfMemory, ReadFault, Sets, Spot, Stop, StopsAtPlace, TextHas, Used, definitions_of, first_place, footprint, footprint_at, items_at, looked_up_in, place_alone, seen, token_itself, tokens_used, unhidden}
 

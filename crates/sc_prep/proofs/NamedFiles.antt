@@ -2,21 +2,18 @@
 use Rattle.std.proofs.Common.{◌≡◌, ℕ, zero, suc, ◌<◌, ◌≤◌, ◌&&◌, ◌||◌, is_none, Bool, true, false, List, [], ◌∷◌, All, map, length, get_or, Option, Some, None, Result, Ok, Err, refl, sym, ap, subst, ◌∙◌, arith, if◌then◌else◌, ◌==◌, nat_le, not}
 use Rattle.c11_directives.specs.declared.directive.Directive.TheVariants as directive
 use Rattle.c11_headers.specs.Headers as headers
-use Rattle.sc_base.specs.declared.fault.Fault as base_fault
 use Rattle.sc_base.specs.declared.token.Token as base
 use Rattle.sc_model.specs.Token.{Token}
-use Rattle.sc_prep.proofs.CloseMoves.{items_at-All}
-use Rattle.sc_prep.proofs.Contents.{IsPlaced-later, place-later, tokens-later}
-use Rattle.sc_prep.proofs.Facts.{All-from_recursion, All-head, All-tail, All-weaker, Extends-refl, Extends-trans, Extends-within, IsConfig-Keeps, IsConfig-kept, IsTable-Extends, IsTable-Keeps, Keeps-trans, PlainToken, and_parts, macros_at-Extends, map-one, ne_eqb, not-true, not_from_false, or_from, recursion_from_All, true≢false}
+use Rattle.sc_prep.proofs.Contents.{tokens-later}
+use Rattle.sc_prep.proofs.Facts.{All-from_recursion, All-head, All-tail, All-weaker, Extends-refl, Extends-trans, IsConfig-Keeps, IsConfig-kept, IsTable-Extends, IsTable-Keeps, Keeps-trans, PlainToken, and_parts, map-one, ne_eqb, not-true, not_from_false, or_from, true≢false}
 use Rattle.sc_prep.proofs.FoundFiles.{finds-nothing}
+use Rattle.sc_prep.proofs.Grown.{simulates-later}
 use Rattle.sc_prep.proofs.LineSteps.{line-grown}
 use Rattle.sc_prep.proofs.ListsAt.{items-keeps}
 use Rattle.sc_prep.proofs.Machine.{inert_refusing}
-use Rattle.sc_prep.proofs.OnceLemmas.{held-more, once-later}
 use Rattle.sc_prep.proofs.PlainRuns.{path-plain}
 use Rattle.sc_prep.proofs.PlainWalks.{says-plain}
-use Rattle.sc_prep.proofs.SettledText.{text-as}
-use Rattle.sc_prep.proofs.Terms.{Agrees, AllByRecursion as Every, AreFound, ArePlaced, ArePlainPaths, BadInclude, BranchesFull, Carries, Cause, Cond, Contents, Context, Entry, Extends, Fault, FileId, Finds, FindsAll, Found, Header, IncludeDepth, IsCond, IsConfig, IsHeld, IsHeldWalk, IsIn, IsNever, IsPlaced, IsPlainState, IsPlainToken, IsSearched, IsSound, IsTable, Keeps, Leads, Line, Machine, Named, NamesAll, NamesAt, NotFound, OutOfMemory, Part, PlainEach, ReadFault, ReadsNothing, RefusedAt, Says, SaysAt, Sets, Simulates, SimulatesOneOf, SimulatesStep, Space, Standard, State, Stop, Stops, Walk, acts, any_token, arriving, fails, fault_at, faults_at, files_at, first_place, has_no_newline, hash_of, headers_in, idle, included, is_directory, is_plain, is_unnamed, items_at, line_of, list_all, missing, named_in, names, no_header, not_expanded, option_map, place_in, refusal, refusing, refusing_if, search, seen, seen_fault, seen_header, seen_line, text_at, too_deep, unnamed_in, unwrap_or, with_named}
+use Rattle.sc_prep.proofs.Terms.{Agrees, AllByRecursion as Every, AreFound, ArePlainPaths, BadInclude, BranchesFull, Carries, Cause, Cond, Contents, Context, Entry, Extends, Fault, FileId, Finds, FindsAll, Found, Header, IncludeDepth, IsCond, IsConfig, IsHeld, IsHeldWalk, IsIn, IsNever, IsPlaced, IsPlainState, IsPlainToken, IsSearched, IsSound, Keeps, Leads, Line, Machine, Named, NamesAll, NamesAt, NotFound, OutOfMemory, Part, PlainEach, ReadFault, ReadsNothing, RefusedAt, Says, SaysAt, Sets, Simulates, SimulatesOneOf, SimulatesStep, Space, Standard, State, Stop, Stops, Walk, acts, any_token, arriving, fails, fault_at, files_at, first_place, has_no_newline, hash_of, headers_in, idle, included, is_directory, is_plain, is_unnamed, items_at, line_of, list_all, missing, named_in, names, no_header, not_expanded, option_map, place_in, refusal, refusing, refusing_if, search, seen, seen_header, seen_line, text_at, too_deep, unnamed_in, unwrap_or, with_named}
 use Rattle.sc_prep.proofs.WalkMoves.{simulates-kept}
 use Rattle.sc_prep.specs.Alternatives.{EachToken, tokens_in}
 use Rattle.sc_prep.specs.Finding as finding
@@ -184,47 +181,6 @@ module _ (standard : Standard) (x : Context) {s0 s1 s2 s3 s4 : Sets} {files befo
           simulates = refused.at files c a.machine (IsConfig-Keeps k13 first) (IsTable-Keeps k13 says.table)
               (simulates-kept k13 w1 says.owns now files c a.machine first says.table a.simulates);
         };
-  }
-
--- ---- the tables grow
-
-faults-later : (s : Sets) {files more : List (List ℕ)} → Extends files more → (fs : List base_fault.Fault) (c : List ℕ) → Every (λ (f : base_fault.Fault). f.place.file.0 < length files) fs
-    → map (seen_fault more) (faults_at s fs c) ≡ map (seen_fault files) (faults_at s fs c)
-faults-later s files_grow [] c there = refl
-faults-later s {files} {more} files_grow (f ∷ fs) c there = by (faults-later s files_grow fs c there.1) (s.has f.cond.0 c)
-  where
-    first : seen_fault more f ≡ seen_fault files f
-    first = ap (λ p. record { cause = f.cause; place = p }) (place-later (Extends-refl files) files_grow f.place there.0)
-
-    by : map (seen_fault more) (faults_at s fs c) ≡ map (seen_fault files) (faults_at s fs c) → (b : Bool) → map (seen_fault more) (if b then f ∷ faults_at s fs c else faults_at s fs c) ≡ map (seen_fault files) (if b then f ∷ faults_at s fs c else faults_at s fs c)
-    by rest true = ap (λ g. g ∷ map (seen_fault more) (faults_at s fs c)) first ∙ ap (λ gs. seen_fault files f ∷ gs) rest
-    by rest false = rest
-
-module _ {before now files more : List (List ℕ)} (grows : Extends before now) (files_grow : Extends files more) where
-  pub held-later : (w : Walk) → IsHeldWalk before (length files) any_token w → IsHeldWalk now (length more) any_token w
-  held-later w held = record {
-    gathered = λ k d h. IsPlaced-later grows files_grow _ (held.gathered k d h);
-    list = λ k d h. IsPlaced-later grows files_grow _ (held.list k d h);
-    passed = held.passed;
-    faults = λ k d h. Extends-within _ (held.faults k d h) files_grow;
-    once = held-more files_grow w.once.items held.once;
-  }
-
-  pub items-later : (s : Sets) (list : List (Cond × base.Token)) (c : List ℕ) → ArePlaced before (length files) list → map (seen now more) (items_at s list c) ≡ map (seen before files) (items_at s list c)
-  items-later s list c placed = tokens-later grows files_grow (items_at s list c) (items_at-All (IsPlaced before (length files)) s list c placed)
-
-  pub simulates-later : (s : Sets) (w : Walk) (c : List ℕ) (m : Machine) → IsTable s before w.table → IsHeldWalk before (length files) any_token w → Simulates s before files w c m → Simulates s now more w c m
-  simulates-later s w c m table held at = record {
-    active = at.active;
-    acting = at.acting;
-    sections = at.sections;
-    prepared = record {
-      live = at.prepared.live;
-      fault = faults-later s files_grow w.prepared.faults.items c (recursion_from_All (λ (f : base_fault.Fault). f.place.file.0 < length files) w.prepared.faults.items held.faults) ∙ at.prepared.fault;
-    };
-    text = λ none. text-as (items-later s w.gathered c held.gathered) (items-later s w.prepared.list c held.list) (at.text none);
-    macros = λ none name. macros_at-Extends grows table c name ∙ at.macros none name;
-    once = λ none name. once-later files_grow s w.once.items c name held.once ∙ at.once none name;
   }
 
 -- ---- the files that configurations enter

@@ -1,20 +1,26 @@
 -- What `#pragma once` and other pragmas do to a walk.
-use Rattle.std.proofs.Common.{◌≡◌, ℕ, ◌<◌, ◌&&◌, ◌||◌, Bool, true, false, List, ◌∷◌, length, drop, get_or, Vec, Global, Some, map, refl, sym, ap, ◌∙◌, subst, if◌then◌else◌}
+use Rattle.std.proofs.Common.{◌≡◌, ℕ, ◌<◌, ◌&&◌, ◌||◌, Bool, true, false, List, ◌∷◌, length, drop, get_or, Vec, Global, Some, refl, sym, ap, ◌∙◌, subst, if◌then◌else◌}
 use Rattle.c11_directives.specs.declared.directive.Directive.TheVariants as directive
 use Rattle.sc_model.specs.Token as model
 use Rattle.sc_prep.proofs.Facts.{IsTable-Keeps, drop-cons}
 use Rattle.sc_prep.proofs.OnceLemmas.{behind-once, behind-other}
-use Rattle.sc_prep.proofs.Terms.{HasText, Keeps, Line, MarksFile, OnceFile, Owns, Sets, Simulates, SimulatesStep, Standard, State, Token, Walk, acts, is_once, items_at, once_at, plain_by, same_bytes, seen, seen_line, state_behind, text_at}
+use Rattle.sc_prep.proofs.Terms.{Failure, HasText, Hidden, Keeps, Line, MarksFile, OnceFile, Owns, Place, RunAt, Sets, Simulates, SimulatesStep, Standard, State, Token, Walk, acts, is_once, once_at, plain_by, same_bytes, seen_line, state_behind, text_at}
 use Rattle.sc_prep.proofs.WalkMoves.{owns-kept, simulates-kept}
+use Rattle.sc_prep.specs.Gathered.{refused, settling}
 
 -- what a pragma leaves as it is
 behind-macros : (b : Bool) (l : Line) (s : State) (name : List ℕ) → (if b then state_behind s l directive.Pragma s.macros else s).macros name ≡ s.macros name
 behind-macros true l s name = refl
 behind-macros false l s name = refl
 
-behind-text : (b : Bool) (l : Line) (s : State) (gathered list : List model.Token) → HasText s gathered list → HasText (if b then state_behind s l directive.Pragma s.macros else s) gathered list
-behind-text true l s gathered list has = record { out = has.out; passes = has.passes; put = has.put }
-behind-text false l s gathered list has = has
+behind-text : (l : Line) (s : State) (gathered : List (Hidden Place)) (list : List model.Token) (faults : List (Failure Place)) → HasText s gathered list faults → HasText (state_behind s l directive.Pragma s.macros) gathered list faults
+behind-text l s gathered list _ (settling before new out left run settles all is) = settling before new out left run settles all is
+behind-text l s gathered list _ (refused before new failure run is) = refused before new failure run is
+
+behind-run : {s : Sets} {names files : List (List ℕ)} (w : Walk) (c : List ℕ) (b : Bool) (l : Line) (state : State) → RunAt s names files w.runs w.prepared.list c state
+    → RunAt s names files w.runs w.prepared.list c (if b then state_behind state l directive.Pragma state.macros else state)
+behind-run w c true l state at = record { run = at.run; text = behind-text l state _ _ _ at.text }
+behind-run w c false l state at = at
 
 -- its file is marked in the configurations that act
 module _ (names : List (List ℕ)) {old new : Sets} (keeps : Keeps old new) (w : Walk) (owns : Owns old w) (once : Vec OnceFile Global) where
@@ -24,7 +30,7 @@ module _ (names : List (List ℕ)) {old new : Sets} (keeps : Keeps old new) (w :
   marks-first standard token tokens marks is_one =
       let kept = owns-kept keeps w owns in
       record {
-        owns = record { group = kept.group; acting = kept.acting; sections = kept.sections; gathered = kept.gathered; once = marks.own; prepared = kept.prepared };
+        owns = record { group = kept.group; acting = kept.acting; sections = kept.sections; runs = kept.runs; once = marks.own; prepared = kept.prepared };
         table = IsTable-Keeps keeps;
         at = λ files config m listed is simulates.
             let same = simulates-kept keeps w owns names files config m listed is simulates in
@@ -34,7 +40,7 @@ module _ (names : List (List ℕ)) {old new : Sets} (keeps : Keeps old new) (w :
               acting = same.acting;
               sections = same.sections;
               prepared = record { live = same.prepared.live; fault = same.prepared.fault };
-              text = λ none. behind-text (acts m) l m.state (map (seen names files) (items_at new w.gathered config)) (map (seen names files) (items_at new w.prepared.list config)) (same.text none);
+              text = λ none. behind-run w config (acts m) l m.state (same.text none);
               macros = λ none name. same.macros none name ∙ sym (behind-macros (acts m) l m.state name);
               once = λ none name.
                   marks.at files config name listed

@@ -1,10 +1,11 @@
 -- Where macros, text and names of files are spelled on one line, so is what the text expands to.
-use Rattle.std.proofs.Common.{◌≡◌, ℕ, true, List, [], ◌∷◌, All, map, Ok, refl, sym, ap, ◌∙◌}
+use Rattle.std.proofs.Common.{◌≡◌, ℕ, true, List, [], ◌∷◌, ◌++◌, All, map, Ok, refl, sym, ap, subst, ◌∙◌}
 use Rattle.sc_expand.proofs.PlainLines.{settles-on_one_line}
 use Rattle.sc_model.specs.Space as model
 use Rattle.sc_model.specs.Token.{Place, Token}
-use Rattle.sc_prep.proofs.Facts.{All-from_recursion, All-map, All-weaker, PlainOption, PlainToken, PlainVariable, and_parts, initial-one_line, ne_eqb, not-true, not_from_false, or_from, text-stays_on_one_line}
-use Rattle.sc_prep.proofs.Terms.{AllByRecursion as Every, AreOneLine, Hidden, IsInRange, IsOneLine, IsPlainToken, IsSound, IsSoundVariable, Macros, Settles, Space, TextExpands, VariableOption, has_no_newline, initial_macros, is_date_byte, list_all, place_alone, token_of, unhidden}
+use Rattle.sc_prep.proofs.Facts.{All-append, All-cons, All-from_recursion, All-head, All-map, All-nil, All-tail, All-weaker, PlainOption, PlainToken, PlainVariable, and_parts, initial-one_line, ne_eqb, not-true, map-append, not_from_false, or_from, text-stays_on_one_line}
+use Rattle.sc_prep.proofs.Terms.{AllByRecursion as Every, AreOneLine, Failure, HasText, Hidden, IsInRange, IsOneLine, IsPlainToken, IsSound, IsSoundVariable, Macros, Settles, Space, State, TextExpands, VariableOption, has_no_newline, initial_macros, is_date_byte, list_all, place_alone, token_of, unhidden}
+use Rattle.sc_prep.specs.Gathered.{refused, settling}
 
 pub spelled-plain : (ts : List Token) → Every IsPlainToken ts → All PlainToken ts
 spelled-plain ts plain = All-weaker IsPlainToken PlainToken (λ t p. p.spelling) ts (All-from_recursion IsPlainToken ts plain)
@@ -14,13 +15,26 @@ expands-plain macros lists text output plain expands =
     text-stays_on_one_line macros lists text output (spelled-plain text plain)
     (All-weaker IsPlainToken (λ (t : Token). has_no_newline t.place.file ≡ true) (λ t p. p.file) text (All-from_recursion IsPlainToken text plain)) expands
 
--- and what it settles to
-pub settles-plain : (macros : Macros) → AreOneLine macros → (text : List Token) (out left : List (Hidden Place)) → Every IsPlainToken text → Settles place_alone macros (map unhidden text) out left → All PlainToken (map token_of out)
-settles-plain macros lists text out left plain settles =
-    let all = All-from_recursion IsPlainToken text plain in
-    let begun : All (IsOneLine place_alone) (map unhidden text) = All-map (IsOneLine place_alone) unhidden text (λ k t h. let p = all k t h in record { spelling = p.spelling; file = p.file }) in
-    let done = (settles-on_one_line place_alone macros lists (record { place = λ p. refl }) (map unhidden text) out left begun settles).0 in
-    All-map PlainToken token_of out (All-weaker (IsOneLine place_alone) (λ (t : Hidden Place). has_no_newline t.spelling ≡ true) (λ t h. h.spelling) out done)
+-- and what settles of it, and waits
+pub settles-plain : (macros : Macros) → AreOneLine macros → (ts out left : List (Hidden Place)) → All (IsOneLine place_alone) ts → Settles place_alone macros ts out left
+    → All PlainToken (map token_of out) × All (IsOneLine place_alone) left
+settles-plain macros lists ts out left plain settles =
+    let both = settles-on_one_line place_alone macros lists (record { place = λ p. refl }) ts out left plain settles in
+    (All-map PlainToken token_of out (All-weaker (IsOneLine place_alone) (λ (t : Hidden Place). has_no_newline t.spelling ≡ true) (λ t h. h.spelling) out both.0), both.1)
+
+all-parts : {A : Type 0} (P : A → Type 0) (xs ys : List A) → All P (xs ++ ys) → All P xs × All P ys
+all-parts P [] ys all = (All-nil P, all)
+all-parts P (x ∷ xs) ys all = let rest = all-parts P xs ys (All-tail P x (xs ++ ys) all) in (All-cons P x xs (All-head P x (xs ++ ys) all) rest.0, rest.1)
+
+-- what is gathered of a run that nothing holds
+pub text-plain : (s : State) → AreOneLine s.macros → Every IsPlainToken s.run → (gathered : List (Hidden Place)) (list : List Token) (faults : List (Failure Place)) → faults ≡ [] → HasText s gathered list faults
+    → All (IsOneLine place_alone) gathered
+text-plain s lists plain gathered list _ none (settling before new out left run settles all is) =
+    let whole = All-from_recursion IsPlainToken s.run plain in
+    let shown : All (IsOneLine place_alone) (map unhidden s.run) = All-map (IsOneLine place_alone) unhidden s.run (λ k t h. let p = whole k t h in record { spelling = p.spelling; file = p.file }) in
+    let parts = all-parts (IsOneLine place_alone) (map unhidden before) (map unhidden new) (subst (All (IsOneLine place_alone)) (ap (map unhidden) run ∙ map-append unhidden before new) shown) in
+    subst (All (IsOneLine place_alone)) (sym all) (All-append (IsOneLine place_alone) left (map unhidden new) (settles-plain s.macros lists (map unhidden before) out left parts.0 settles).1 parts.1)
+text-plain s lists plain gathered list _ none (refused before new failure run is) = absurd (cc)
 
 -- ---- the macros with which a configuration starts
 

@@ -4,10 +4,8 @@ use Rattle.c11_directives.specs.declared.directive.Directive.TheVariants as dire
 use Rattle.sc_base.specs.declared.token.Token as base
 use Rattle.sc_model.specs.Token.{Token}
 use Rattle.sc_prep.proofs.Facts.{All-get_or, All-weaker, IsConfig-kept, both, recursion_from_All, slice_get_within, unwrap_or-slice_get, update-one_line}
-use Rattle.sc_prep.proofs.Plain.{expands-plain}
 use Rattle.sc_prep.proofs.PlainWalks.{IsPlainAt, PlainChange, every-append, lines-plain, read-plain, undefined-plain, carries-plain}
-use Rattle.sc_prep.proofs.SettledText.{text-every}
-use Rattle.sc_prep.proofs.Terms.{AllByRecursion as Every, Alternative, AreOneLine, ArePlainPaths, Cause, ClosesPlain, Conditional, Context, Covers, Defined, Definition, Directive, Else, Endif, Entry, Extends, Fault, IsIn, IsOneLineList, IsPlaced, IsPlainOrNewline, IsPlainState, IsPlainToken, Keeps, Leads, Line, Machine, Macros, Opening, PlainEach, Redefined, Runs, Sets, Simulates, Standard, State, Takes, TextExpands, Walk, acts, any_machine, arriving, behind_name, branched_as, carries, changed_by, changing, closes, closing_run, conditional_of, defined_as, defined_over, ended, has_no_newline, is_barrier, items_at, macros_at, next_branch, opened_as, operand_of, plain_by, put_out, reads, same_definition, seen, seen_lines, state_behind, step_by, takes, text_at, with_macro, with_text}
+use Rattle.sc_prep.proofs.Terms.{AllByRecursion as Every, Alternative, AreOneLine, ArePlainPaths, Cause, Conditional, Context, Covers, Defined, Definition, Directive, Else, Endif, Entry, Extends, Fault, IsIn, IsOneLineList, IsPlaced, IsPlainOrNewline, IsPlainState, IsPlainToken, Keeps, Leads, Line, Machine, Macros, Opening, PlainEach, Redefined, Runs, Sets, Standard, State, Takes, Walk, acts, any_machine, arriving, behind_name, branched_as, carries, changed_by, changing, closes, closing_run, conditional_of, defined_as, defined_over, ended, has_no_newline, is_barrier, next_branch, opened_as, operand_of, plain_by, put_out, reads, same_definition, seen, seen_lines, state_behind, step_by, takes, text_at, with_macro, with_text}
 use Rattle.sc_prep.specs.Machine as machine
 
 -- ---- the macros
@@ -130,23 +128,6 @@ placed-plain standard names files ts placed paths all =
 pub unfaulty : (fault : Option Fault) → is_none fault ≡ true → fault ≡ None
 unfaulty None e = refl
 unfaulty (Some fault) e = absurd (cc)
-
--- where the walk is at a machine that is so
-pub closes-plain : (s : Sets) (names files : List (List ℕ)) (w : Walk) (config : List ℕ) (m : Machine) → Simulates s names files w config m → IsPlainState m.state
-    → s.has w.prepared.live.0 config ≡ true → (output : List Token) → TextExpands (macros_at s names w.table config) (map (seen names files) (items_at s w.gathered config)) (Ok output)
-    → All (λ (t : Token). has_no_newline t.spelling ≡ true) output
-closes-plain s names files w config m at plain live output expands =
-    let none = unfaulty m.fault (sym at.prepared.live ∙ live) in
-    let macros : macros_at s names w.table config ≡ m.state.macros = λ i name. at.macros none name i in
-    let has = at.text none in
-    let here = subst (λ ms. TextExpands ms (map (seen names files) (items_at s w.gathered config)) (Ok output)) macros expands in
-    expands-plain m.state.macros plain.macros (map (seen names files) (items_at s w.gathered config)) output (text-every IsPlainToken m.state _ _ has plain.run) here
-
--- the runs of such a walk expand to tokens that are spelled on one line
-pub each-closes-plain : {s : Sets} {names files : List (List ℕ)} {w : Walk} {from : Machine → Type 0} → PlainEach s names files w from → ClosesPlain s names files w
-each-closes-plain {s} {names} {files} {w} plain config listed live output expands =
-    let at = plain.each config listed in
-    closes-plain s names files w config at.0 at.1 at.3 live output expands
 
 -- whatever else holds of the machines
 pub each-any : {s : Sets} {names files : List (List ℕ)} {w : Walk} {from : Machine → Type 0} → PlainEach s names files w from → PlainEach s names files w any_machine

@@ -1,9 +1,16 @@
 -- The lists of a walk whose runs are closed.
-use Rattle.std.proofs.Common.{◌≡◌, ℕ, ◌&&◌, not, Bool, true, false, List, [], ◌∷◌, ◌++◌, All, append-nil, append_assoc, refl, sym, ap, subst, ◌∙◌, if◌then◌else◌}
+use Rattle.std.proofs.Common.{◌≡◌, ℕ, ◌+◌, ◌&&◌, not, Bool, true, false, List, [], ◌∷◌, ◌++◌, All, Some, map, slice_get, take, append-nil, append_assoc, refl, sym, ap, subst, ◌∙◌, if◌then◌else◌}
+use Rattle.std.proofs.lemmas.List.Elements.{All-contains, Contains-append_left, Contains-push}
+use Rattle.std.specs.List.{Contains}
 use Rattle.sc_base.specs.declared.fault.Fault.{Fault}
-use Rattle.sc_prep.proofs.ApartLemmas.{apart-without, tokens-push}
-use Rattle.sc_prep.proofs.Facts.{All-cons, All-head, All-nil, All-push, All-tail, Denotes-Keeps, IsConfig-Keeps, IsConfig-kept, faults_at-Keeps, faults_at-append, items_at-Keeps, items_at-append}
-use Rattle.sc_prep.proofs.Terms.{ArePlaced, Cond, Denotes, Expanded, IsCond, IsConfig, IsNever, IsPart, IsPlaced, IsWithin, Keeps, PutsOut, RefusesEach, Sets, StandApart, Token, Walk, faults_at, has_none, is_empty, items_at, tokens_in}
+use Rattle.sc_base.specs.declared.place.Place.{Place}
+use Rattle.sc_expand.proofs.AlikeLemmas.{AreAlike-Keeps, AreAlikeFaults-Keeps, all-back}
+use Rattle.sc_expand.proofs.ClosingLemmas.{Adds, added, left_out}
+use Rattle.sc_expand.specs.Closing.{IsClosed}
+use Rattle.sc_expand.specs.Seen.{failures_at, seen_failure}
+use Rattle.sc_prep.proofs.Facts.{All-at, All-map, All-nil, All-push, IsConfig-Keeps, IsConfig-kept, faults_at-Keeps, faults_at-append, items_at-Keeps, items_at-append, map-append, none-told, take-next}
+use Rattle.sc_prep.proofs.Terms.{Cond, Denotes, Expanded, Failure, IsCond, IsConfig, IsNever, IsPart, IsWithin, Keeps, RefusesEach, Sets, Walk, fault_items, faults_at, has_none, is_empty, items_at}
+use Rattle.sc_subst.specs.declared.hidden.Hidden.{Hidden}
 
 pub denotes-as : {s : Sets} {a : ℕ} (f g : List ℕ → Bool) → ((c : List ℕ) → IsConfig s.arities c → f c ≡ g c) → Denotes s a f → Denotes s a g
 denotes-as f g same told = record { own = told.own; at = λ c listed. told.at c listed ∙ same c listed }
@@ -13,82 +20,139 @@ never-back keeps a own never = record { none = λ c listed. sym (keeps.at a c ow
 
 -- ---- items of a list
 
-pub part-later : {old new : Sets} {items kept : List (Cond × Token)} → Keeps old new → IsPart items old kept → IsPart items new kept
-part-later keeps was = record {
-  own = λ k d h. keeps.own _ (was.own k d h);
-  some = λ k d h never. was.some k d h (never-back keeps _ (was.own k d h) never);
-  placed = was.placed;
-  apart = was.apart;
-}
+module _ {T : Type 0} where
+  pub part-later : {old new : Sets} {items kept : List (Cond × T)} → Keeps old new → IsPart items old kept → IsPart items new kept
+  part-later keeps was = record {
+    own = λ k d h. keeps.own _ (was.own k d h);
+    some = λ k d h never. was.some k d h (never-back keeps _ (was.own k d h) never);
+    from = was.from;
+  }
 
-module _ {s : Sets} (items kept : List (Cond × Token)) (cond : Cond) (x : Token) (was : IsPart items s kept) where
-  front-placed : (names : List (List ℕ)) (files : ℕ) → ArePlaced names files (items ++ (cond, x) ∷ []) → ArePlaced names files items × IsPlaced names files x
-  front-placed names files all = parts items all
-    where
-      parts : (xs : List (Cond × Token)) → All (λ (item : Cond × Token). IsPlaced names files item.1) (xs ++ (cond, x) ∷ []) → All (λ (item : Cond × Token). IsPlaced names files item.1) xs × IsPlaced names files x
-      parts [] all = (All-nil (λ (item : Cond × Token). IsPlaced names files item.1), All-head (λ (item : Cond × Token). IsPlaced names files item.1) (cond, x) [] all)
-      parts (y ∷ ys) all =
-          let rest = parts ys (All-tail (λ (item : Cond × Token). IsPlaced names files item.1) y (ys ++ (cond, x) ∷ []) all) in
-          (All-cons (λ (item : Cond × Token). IsPlaced names files item.1) y ys (All-head (λ (item : Cond × Token). IsPlaced names files item.1) y (ys ++ (cond, x) ∷ []) all) rest.0, rest.1)
+  -- what the items have, so have those
+  pub part-All : {s : Sets} {items kept : List (Cond × T)} (P : T → Type 0) → IsPart items s kept → All (λ (i : Cond × T). P i.1) items → All (λ (i : Cond × T). P i.1) kept
+  part-All {items = items} P part all = λ k d h. All-contains P (map (λ (i : Cond × T). i.1) items) _ (All-map P (λ (i : Cond × T). i.1) items all) (part.from k d h)
 
-  -- one that no configuration has is left out
-  pub part-without : IsPart (items ++ (cond, x) ∷ []) s kept
-  part-without = record {
+  longer : (items : List (Cond × T)) (item : Cond × T) (x : T) → Contains (map (λ (i : Cond × T). i.1) items) x → Contains (map (λ (i : Cond × T). i.1) (items ++ item ∷ [])) x
+  longer items item x h = subst (λ ts. Contains ts x) (sym (map-append (λ (i : Cond × T). i.1) items (item ∷ []))) (Contains-append_left (map (λ (i : Cond × T). i.1) items) (item.1 ∷ []) x h)
+
+  -- an item more, which some configuration has, or not
+  part-next : {s : Sets} (items kept next : List (Cond × T)) (item : Cond × T) (part : Cond) → IsCond s part.0 → Adds s part.0 (part, item.1) kept next → IsPart items s kept → IsPart (items ++ item ∷ []) s next
+  part-next {s} items kept next item part own (added some is) was =
+      let x : Cond × T = (part, item.1) in
+      subst (IsPart (items ++ item ∷ []) s) (sym is) (record {
+        own = All-push (λ (i : Cond × T). IsCond s i.0.0) kept x was.own own;
+        some = All-push (λ (i : Cond × T). IsNever s i.0.0 → ⊥) kept x was.some some;
+        from = All-push (λ (i : Cond × T). Contains (map (λ (j : Cond × T). j.1) (items ++ item ∷ [])) i.1) kept x (λ k d h. longer items item _ (was.from k d h))
+            (subst (λ ts. Contains ts item.1) (sym (map-append (λ (j : Cond × T). j.1) items (item ∷ []))) (Contains-push (map (λ (j : Cond × T). j.1) items) item.1));
+      })
+  part-next {s} items kept next item part own (left_out never is) was = subst (IsPart (items ++ item ∷ []) s) (sym is) (record {
     own = was.own;
     some = was.some;
-    placed = λ names files all. was.placed names files (front-placed names files all).0;
-    apart = λ rest all. was.apart rest (apart-without (tokens_in items) (x ∷ []) rest (subst StandApart (tokens-push items cond x rest) all));
+    from = λ k d h. longer items item _ (was.from k d h);
+  })
+
+  added-at : {s : Sets} (kept next : List (Cond × T)) (part : Cond) (x : T) (c : List ℕ) → IsConfig s.arities c → Adds s part.0 (part, x) kept next → items_at s next c ≡ items_at s kept c ++ (if s.has part.0 c then x ∷ [] else [])
+  added-at {s} kept next part x c listed (added some is) = ap (λ xs. items_at s xs c) is ∙ items_at-append s kept ((part, x) ∷ []) c
+  added-at {s} kept next part x c listed (left_out never is) =
+      ap (λ xs. items_at s xs c) is ∙ (sym (append-nil (items_at s kept c)) ∙ ap (λ b. items_at s kept c ++ (if b then x ∷ [] else [])) (sym (never.none c listed)))
+
+  one_within : (t h : Bool) (x : T) (xs : List T) → (if t then xs else []) ++ (if h && t then x ∷ [] else []) ≡ (if t then xs ++ (if h then x ∷ [] else []) else [])
+  one_within true true x xs = refl
+  one_within true false x xs = refl
+  one_within false true x xs = refl
+  one_within false false x xs = refl
+
+  -- ---- items in the configurations of a test
+
+  pub within-none : {s : Sets} (t : List ℕ → Bool) → IsWithin {T = T} s [] t s []
+  within-none {s} t = record {
+    part = record { own = All-nil (λ (i : Cond × T). IsCond s i.0.0); some = All-nil (λ (i : Cond × T). IsNever s i.0.0 → ⊥); from = All-nil (λ (i : Cond × T). Contains (map (λ (j : Cond × T). j.1) []) i.1) };
+    at = λ c listed. none-told (t c);
   }
 
-  -- one that some configuration has is kept
-  pub part-with : (part : Cond) → IsCond s part.0 → (IsNever s part.0 → ⊥) → IsPart (items ++ (cond, x) ∷ []) s (kept ++ (part, x) ∷ [])
-  part-with part own some = record {
-    own = All-push (λ (item : Cond × Token). IsCond s item.0.0) kept (part, x) was.own own;
-    some = All-push (λ (item : Cond × Token). IsNever s item.0.0 → ⊥) kept (part, x) was.some some;
-    placed = λ names files all.
-        let parts = front-placed names files all in
-        All-push (λ (item : Cond × Token). IsPlaced names files item.1) kept (part, x) (was.placed names files parts.0) parts.1;
-    apart = λ rest all. subst StandApart (sym (tokens-push kept part x rest)) (was.apart (x ∷ rest) (subst StandApart (tokens-push items cond x rest) all));
+  -- the list stays within the other as the store grows
+  pub within-later : {first old new : Sets} {items kept : List (Cond × T)} {t : List ℕ → Bool} → Keeps first old → Keeps old new → IsWithin first items t old kept → IsWithin first items t new kept
+  within-later {kept = kept} before keeps was = record {
+    part = part-later keeps was.part;
+    at = λ c listed. items_at-Keeps kept c keeps was.part.own (IsConfig-Keeps before listed) ∙ was.at c listed;
   }
 
--- ---- items in the configurations of a test
+  -- the same told of the store before
+  pub within-as : {old mid new : Sets} {items kept : List (Cond × T)} (by t : List ℕ → Bool) → Keeps old mid → All (λ (item : Cond × T). IsCond old item.0.0) items
+      → ((c : List ℕ) → IsConfig old.arities c → by c ≡ t c) → IsWithin mid items by new kept → IsWithin old items t new kept
+  within-as {old} {mid} {items = items} by t keeps own same was = record {
+    part = was.part;
+    at = λ c listed. was.at c (IsConfig-Keeps keeps listed)
+        ∙ (ap (λ b. if b then items_at mid items c else []) (same c listed) ∙ ap (λ xs. if t c then xs else []) (items_at-Keeps items c keeps own listed));
+  }
 
--- the list stays within the other as the store grows
-pub within-later : {first old new : Sets} {items kept : List (Cond × Token)} (t : List ℕ → Bool) → Keeps first old → Keeps old new → IsWithin first items t old kept → IsWithin first items t new kept
-within-later {kept = kept} t before keeps was = record {
-  part = part-later keeps was.part;
-  at = λ c listed. items_at-Keeps kept c keeps was.part.own (IsConfig-Keeps before listed) ∙ was.at c listed;
-}
+  -- an item more
+  pub within-next : {first old new : Sets} {items kept next : List (Cond × T)} (by part : Cond) (item : Cond × T) → Keeps first old → Keeps old new → IsWithin first items (first.has by.0) old kept
+      → Denotes new part.0 (λ c. first.has item.0.0 c && first.has by.0 c) → Adds new part.0 (part, item.1) kept next → IsWithin first (items ++ item ∷ []) (first.has by.0) new next
+  within-next {first} {old} {new} {items} {kept} {next} by part item before keeps was part_is adds = record {
+    part = part-next items kept next item part part_is.own adds (part-later keeps was.part);
+    at = λ c listed.
+        let mid = IsConfig-Keeps before listed in
+        let now = IsConfig-Keeps keeps mid in
+        added-at kept next part item.1 c now adds
+        ∙ (ap (λ xs. xs ++ (if new.has part.0 c then item.1 ∷ [] else [])) (items_at-Keeps kept c keeps was.part.own mid ∙ was.at c listed)
+        ∙ (ap (λ b. (if first.has by.0 c then items_at first items c else []) ++ (if b then item.1 ∷ [] else [])) (part_is.at c now)
+        ∙ (one_within (first.has by.0 c) (first.has item.0.0 c) item.1 (items_at first items c) ∙ ap (λ xs. if first.has by.0 c then xs else []) (sym (items_at-append first items (item ∷ []) c)))));
+  }
 
--- the same told of the store before
-pub within-as : {old mid new : Sets} {items kept : List (Cond × Token)} (by t : List ℕ → Bool) → Keeps old mid → All (λ (item : Cond × Token). IsCond old item.0.0) items
-    → ((c : List ℕ) → IsConfig old.arities c → by c ≡ t c) → IsWithin mid items by new kept → IsWithin old items t new kept
-within-as {old} {mid} {new} {items} {kept} by t keeps own same was = record {
-  part = was.part;
-  at = λ c listed. was.at c (IsConfig-Keeps keeps listed)
-      ∙ (ap (λ b. if b then items_at mid items c else []) (same c listed) ∙ ap (λ xs. if t c then xs else []) (items_at-Keeps items c keeps own listed));
-}
+  -- the item of an index
+  pub item-own : (s : Sets) (items : List (Cond × T)) (i : ℕ) (cond : Cond) (x : T) → slice_get items i ≡ Some (cond, x) → All (λ (item : Cond × T). IsCond s item.0.0) items → IsCond s cond.0
+  item-own s items i cond x at own = All-at (λ (item : Cond × T). IsCond s item.0.0) items i (cond, x) at own
 
-one_within : (t h : Bool) (x : Token) (xs : List Token) → (if t then xs else []) ++ (if h && t then x ∷ [] else []) ≡ (if t then xs ++ (if h then x ∷ [] else []) else [])
-one_within true true x xs = refl
-one_within true false x xs = refl
-one_within false true x xs = refl
-one_within false false x xs = refl
+  pub within-step : {first old new : Sets} (items kept next : List (Cond × T)) (i : ℕ) (cond : Cond) (x : T) (by part : Cond) → slice_get items i ≡ Some (cond, x) → Keeps first old → Keeps old new
+      → IsWithin first (take i items) (first.has by.0) old kept → Denotes new part.0 (λ c. first.has cond.0 c && first.has by.0 c) → Adds new part.0 (part, x) kept next → IsWithin first (take (i + 1) items) (first.has by.0) new next
+  within-step {first} {new = new} items kept next i cond x by part at before keeps was part_is adds =
+      subst (λ xs. IsWithin first xs (first.has by.0) new next) (sym (take-next items i (cond, x) at)) (within-next by part (cond, x) before keeps was part_is adds)
 
--- an item more
-pub within-next : {first old new : Sets} {items kept next : List (Cond × Token)} (by part : Cond) (item : Cond × Token) → Keeps first old → Keeps old new → IsWithin first items (first.has by.0) old kept
-    → Denotes new part.0 (λ c. first.has item.0.0 c && first.has by.0 c) → IsPart (items ++ item ∷ []) new next
-    → ((c : List ℕ) → IsConfig new.arities c → items_at new next c ≡ items_at new kept c ++ (if new.has part.0 c then item.1 ∷ [] else []))
-    → IsWithin first (items ++ item ∷ []) (first.has by.0) new next
-within-next {first} {old} {new} {items} {kept} by part item before keeps was part_is is_part pushed = record {
-  part = is_part;
-  at = λ c listed.
-      let mid = IsConfig-Keeps before listed in
-      let now = IsConfig-Keeps keeps mid in
-      pushed c now
-      ∙ (ap (λ xs. xs ++ (if new.has part.0 c then item.1 ∷ [] else [])) (items_at-Keeps kept c keeps was.part.own mid ∙ was.at c listed)
-      ∙ (ap (λ b. (if first.has by.0 c then items_at first items c else []) ++ (if b then item.1 ∷ [] else [])) (part_is.at c now)
-      ∙ (one_within (first.has by.0 c) (first.has item.0.0 c) item.1 (items_at first items c) ∙ ap (λ xs. if first.has by.0 c then xs else []) (sym (items_at-append first items (item ∷ []) c)))));
+-- ---- faults as items
+
+pub fault-items : (s : Sets) (faults : List Fault) (c : List ℕ) → items_at s (fault_items faults) c ≡ failures_at s faults c
+fault-items s [] c = refl
+fault-items s (f ∷ fs) c = by (s.has f.cond.0 c) (fault-items s fs c)
+  where
+    by : (b : Bool) → items_at s (fault_items fs) c ≡ failures_at s fs c → (if b then seen_failure f ∷ items_at s (fault_items fs) c else items_at s (fault_items fs) c) ≡ map seen_failure (if b then f ∷ faults_at s fs c else faults_at s fs c)
+    by true rest = ap (λ xs. seen_failure f ∷ xs) rest
+    by false rest = rest
+
+-- what their items have
+pub faults-All : (P : Cond × Failure Place → Type 0) (faults : List Fault) → All P (fault_items faults) → All (λ (f : Fault). P (f.cond, seen_failure f)) faults
+faults-All P faults all = all-back P (λ (f : Fault). (f.cond, seen_failure f)) faults all
+
+-- a fault more
+pub faults-next : {first old new : Sets} (faults kept next : List Fault) (by part : Cond) (fault : Fault) → Keeps first old → Keeps old new → IsWithin first (fault_items faults) (first.has by.0) old (fault_items kept)
+    → Denotes new part.0 (λ c. first.has fault.cond.0 c && first.has by.0 c) → Adds new part.0 (record fault { cond = part }) kept next → IsWithin first (fault_items (faults ++ fault ∷ [])) (first.has by.0) new (fault_items next)
+faults-next {first} {new = new} faults kept next by part fault before keeps was part_is adds =
+    let item : Fault → Cond × Failure Place = λ f. (f.cond, seen_failure f) in
+    subst (λ xs. IsWithin first xs (first.has by.0) new (fault_items next)) (sym (map-append item faults (fault ∷ []))) (within-next by part (item fault) before keeps was part_is (made adds))
+  where
+    made : Adds new part.0 (record fault { cond = part }) kept next → Adds new part.0 (part, seen_failure fault) (fault_items kept) (fault_items next)
+    made (added some is) = added some (ap fault_items is ∙ map-append (λ (f : Fault). (f.cond, seen_failure f)) kept (record fault { cond = part } ∷ []))
+    made (left_out never is) = left_out never (ap fault_items is)
+
+pub items-own : (s : Sets) (faults : List Fault) → All (λ (f : Fault). IsCond s f.cond.0) faults → All (λ (item : Cond × Failure Place). IsCond s item.0.0) (fault_items faults)
+items-own s faults own = All-map (λ (item : Cond × Failure Place). IsCond s item.0.0) (λ (f : Fault). (f.cond, seen_failure f)) faults own
+
+-- ---- what was closed
+
+pub closed-later : {old new last : Sets} {rest : List (Cond × Hidden)} {under : ℕ} {e : Expanded} → Keeps old new → Keeps new last → IsClosed old new rest under e → IsClosed old last rest under e
+closed-later {e = e} before keeps was = record {
+  list = λ c listed. items_at-Keeps e.list c keeps was.own (IsConfig-Keeps before listed) ∙ was.list c listed;
+  faults = λ c listed. ap (map seen_failure) (faults_at-Keeps e.faults.items c keeps was.faults_own (IsConfig-Keeps before listed)) ∙ was.faults c listed;
+  own = λ k d h. keeps.own _ (was.own k d h);
+  some = λ k d h never. was.some k d h (never-back keeps _ (was.own k d h) never);
+  held = was.held;
+  placed = was.placed;
+  faults_placed = was.faults_placed;
+  faults_some = λ k d h never. was.faults_some k d h (never-back keeps _ (was.faults_own k d h) never);
+  faults_own = λ k d h. keeps.own _ (was.faults_own k d h);
+  alike = λ c d at there same all.
+      let x = was.alike c d at there same all in
+      (AreAlike-Keeps keeps (IsConfig-Keeps before at) (IsConfig-Keeps before there) e.list was.own x.0, AreAlikeFaults-Keeps keeps (IsConfig-Keeps before at) (IsConfig-Keeps before there) e.faults.items was.faults_own x.1);
 }
 
 -- ---- refusals
@@ -170,27 +234,3 @@ refuses-then {r} {s} {t} keeps later w v u xs ys own a b =
             ∙ (and_assoc (r.has w.acting.0 c) (has_none r xs c) (has_none s ys c) ∙ ap (λ x. r.has w.acting.0 c && x) (none c first)));
       };
     }
-
--- ---- what is put out
-
--- The runs of the configurations that act are put out, and what was gathered stays for the others.
-pub puts-out : {old mid new : Sets} (keeps : Keeps old mid) (later : Keeps mid new) (w v next : Walk) (e : Expanded) (added : List (Cond × Token))
-    → RefusesEach old w e.faults.items mid v
-    → next ≡ record v { gathered = next.gathered; prepared = record v.prepared { list = next.prepared.list } }
-    → next.prepared.list ≡ v.prepared.list ++ added
-    → IsWithin old e.list (λ c. old.has w.prepared.live.0 c && has_none old e.faults.items c) new added
-    → IsWithin old w.gathered (λ c. (old.has w.prepared.live.0 c && has_none old e.faults.items c) && not (old.has w.acting.0 c)) new next.gathered
-    → PutsOut old w e new next
-puts-out {old} {mid} {new} keeps later w v next e added refuses same list put gathered = record {
-  group = ap (λ (x : Walk). x.group) same ∙ ap (λ (x : Walk). x.group) refuses.same;
-  sections = ap (λ (x : Walk). x.sections) same ∙ ap (λ (x : Walk). x.sections) refuses.same;
-  table = ap (λ (x : Walk). x.table) same ∙ ap (λ (x : Walk). x.table) refuses.same;
-  once = ap (λ (x : Walk). x.once) same ∙ ap (λ (x : Walk). x.once) refuses.same;
-  faults = ap (λ (x : Walk). x.prepared.faults.items) same ∙ refuses.faults;
-  live = subst (λ (x : Cond). Denotes new x.0 (λ c. old.has w.prepared.live.0 c && has_none old e.faults.items c)) (sym (ap (λ (x : Walk). x.prepared.live) same)) (Denotes-Keeps later refuses.live);
-  acting = subst (λ (x : Cond). Denotes new x.0 (λ c. old.has w.acting.0 c && has_none old e.faults.items c)) (sym (ap (λ (x : Walk). x.acting) same)) (Denotes-Keeps later refuses.acting);
-  added = added;
-  list = list ∙ ap (λ (x : Walk). x.prepared.list ++ added) refuses.same;
-  put = put;
-  gathered = gathered;
-}

@@ -1,118 +1,291 @@
 -- What settling the runs does at each configuration.
-use Rattle.std.proofs.Common.{◌≡◌, ℕ, Bool, true, false, List, [], ◌++◌, All, map, length, None, append-nil, refl, sym, ap, subst, ◌∙◌, is_none}
+use Rattle.std.proofs.Common.{◌≡◌, ℕ, ◌<◌, ◌&&◌, not, Bool, true, false, true≢false, ◌⊎◌, inl, inr, List, [], ◌∷◌, ◌++◌, All, map, length, None, append-nil, refl, sym, ap, subst, ◌∙◌, is_none, if◌then◌else◌}
+use Rattle.c11_macros.specs.Runs.{IsHeld}
+use Rattle.sc_base.specs.declared.fault.Fault as base
+use Rattle.sc_base.specs.declared.place.Place as base_place
 use Rattle.sc_base.specs.declared.token.Token as base_token
+use Rattle.sc_expand.proofs.SettledPlaces.{held-moved, settles-moved}
+use Rattle.sc_expand.proofs.TextLemmas.{places-kept, seen-out}
+use Rattle.sc_expand.specs.Moved.{moved, moved_failure}
+use Rattle.sc_expand.specs.Open.{closed}
+use Rattle.sc_expand.specs.Running.{IsDone}
+use Rattle.sc_expand.specs.Running as running
+use Rattle.sc_expand.specs.Seen.{failures_at, provenance_of, seen_at, seen_failure, stores}
+use Rattle.sc_expand.specs.Settling.{IsHeldSettled, IsSettled}
 use Rattle.sc_model.specs.Token.{Place, Token}
-use Rattle.sc_prep.proofs.ApartLemmas.{gathers-part, gathers-same, gathers-then}
-use Rattle.sc_prep.proofs.CloseMoves.{items_at-All, plain-by, plain-grown, plain-seen, shown-before, simulates-grown}
-use Rattle.sc_prep.proofs.Facts.{All-append, All-nil, Extends-refl, IsConfig-Keeps, IsConfig-kept, IsTable-Extends, IsTable-Keeps, items_at-append, map-append}
-use Rattle.sc_prep.proofs.LineSteps.{tokens-grown}
-use Rattle.sc_prep.proofs.NamedFiles.{held-later}
-use Rattle.sc_prep.proofs.Plain.{settles-plain}
+use Rattle.sc_prep.proofs.ApartLemmas.{gathers-then}
+use Rattle.sc_prep.proofs.CloseMoves.{empty-seen, plain-by, plain-seen, some-seen}
+use Rattle.sc_prep.proofs.Facts.{All-append, All-nil, Keeps-trans, and_parts, Extends-refl, IsConfig-Keeps, IsConfig-kept, IsTable-Extends, IsTable-Keeps, faults_at-Keeps, items-bared, items_at-Keeps, macros_at-Extends, macros_at-Keeps}
+use Rattle.sc_prep.proofs.Grown.{held-grown, plain-grown, shown-before, simulates-grown}
+use Rattle.sc_prep.proofs.Plain.{settles-plain, text-plain}
 use Rattle.sc_prep.proofs.PlainRuns.{unfaulty}
-use Rattle.sc_prep.proofs.SettledText.{text-as, text-every, text-settles}
+use Rattle.sc_prep.proofs.RunLemmas.{part-All}
+use Rattle.sc_prep.proofs.SettledText.{settled-expands, text-as, text-held, text-refused, text-settles}
 use Rattle.sc_prep.proofs.Stopping.{stops-as}
-use Rattle.sc_prep.proofs.Terms.{AllPass, Comes, Cond, Early, Extends, HasText, Hidden, IsCond, IsConfig, IsHeld, IsHeldWalk, IsPart, IsPlaced, IsPlainState, IsPlainToken, IsStored, IsTable, Keeps, LineStage, Machine, Owns, PlainEach, PutsFirst, Sets, Settles, SettlesList, Simulates, StandApart, Stop, StopsAtPlace, StopsBy, StopsStage, Walk, any_machine, any_token, is_plain, items_at, macros_at, place_alone, seen, settles, stays, token_of, tokens_in, unhidden}
+use Rattle.sc_prep.proofs.Terms.{AllPass, Comes, Cond, Denotes, Expands, Extends, Failure, HasSettled, HasText, Hidden, IsAsked, IsCond, IsConfig, IsHeldHidden, IsHeldWalk, IsPlainState, IsPlaced, IsStored, IsTable, Keeps, KeepsSettled, LineStage, Machine, Macros, Name, Owns, PlainEach, Provenance, Sets, Settled, Settles, Simulates, StandApart, Stop, StopsAtPlace, StopsBy, StopsStage, Walk, any_machine, any_token, faults_at, has_none, held_at, hidden_at, is_empty, is_plain, items_at, macros_at, place_alone, seen, seen_hidden, seen_place, token_of, tokens_read}
+use Rattle.sc_prep.proofs.Texts.{held_at-append, hidden_at-append, items_seen-append}
 use Rattle.sc_prep.proofs.WalkMoves.{owns-kept, simulates-kept}
+use Rattle.sc_subst.specs.declared.hidden.Hidden as base_hidden
+
+-- a walk whose store of hide sets has grown
+abbrev pub with-sets : Walk → List (List Name) → Walk
+with-sets w hides = record w { runs = record w.runs { sets = hides } }
 
 -- nothing is put out as the stores grow
-pub stays-stage : (files : List (List ℕ)) {names more : List (List ℕ)} {old new : Sets} → Keeps old new → Extends names more → (w : Walk) → IsStored old names (length files) w
-    → LineStage files names old w [] more new w (λ config m n. n ≡ m)
-stays-stage files {names} keeps grows w stored = record {
-  simulates = record {
-    owns = owns-kept keeps w stored.owns;
-    table = IsTable-Extends grows (IsTable-Keeps keeps stored.table);
-    at = λ c m listed simulates. record {
-      machine = m;
-      done = refl;
-      simulates = simulates-grown grows files w any_token (length files) c m (IsTable-Keeps keeps stored.table) stored.held
-          (simulates-kept keeps w stored.owns names files c m listed stored.table simulates);
+module _ (files : List (List ℕ)) {names more : List (List ℕ)} {old new : Sets} (keeps : Keeps old new) (grows : Extends names more) (w : Walk) {hides : List (List Name)} (hides_grow : Extends w.runs.sets hides)
+    (stored : IsStored old names (length files) w) where
+  owns-more : Owns new (with-sets w hides)
+  owns-more =
+      let kept = owns-kept keeps w stored.owns in
+      record { group = kept.group; acting = kept.acting; sections = kept.sections; runs = record { gathered = kept.runs.gathered; held = kept.runs.held; read = kept.runs.read }; once = kept.once; prepared = kept.prepared }
+
+  pub stays-stage : LineStage files names old w [] more new (with-sets w hides) (λ config m n. n ≡ m)
+  stays-stage = record {
+    simulates = record {
+      owns = owns-more;
+      table = IsTable-Extends grows (IsTable-Keeps keeps stored.table);
+      at = λ c m listed simulates. record {
+        machine = m;
+        done = refl;
+        simulates = simulates-grown grows (Extends-refl files) w hides_grow new c m (IsTable-Keeps keeps stored.table) stored.held (simulates-kept keeps w stored.owns names files c m listed stored.table simulates);
+      };
     };
-  };
-  held = held-later grows (Extends-refl files) w stored.held;
-  plain = λ each was. plain-grown grows (length files) w.prepared.list stored.held.list was;
-  gathers = gathers-same [] w w refl;
+    held = held-grown grows (Extends-refl files) w hides_grow stored.held;
+    plain = λ each was. plain-grown grows (length files) w.prepared.list stored.held.list was;
+    gathers = λ rest apart. apart;
+  }
+
+  pub stored-kept : IsStored new more (length files) (with-sets w hides)
+  stored-kept = record { owns = owns-more; table = IsTable-Extends grows (IsTable-Keeps keeps stored.table); held = held-grown grows (Extends-refl files) w hides_grow stored.held }
+
+-- those without a fault, told of the store later
+pub unheld-now : {old new : Sets} (keeps : Keeps old new) (w : Walk) → Owns old w → (free : ℕ) → Denotes new free (λ c. old.has w.prepared.live.0 c && has_none old w.runs.held.items c)
+    → Denotes new free (λ c. new.has w.prepared.live.0 c && has_none new w.runs.held.items c)
+unheld-now {old} {new} keeps w owns free told = record {
+  own = told.own;
+  at = λ c now.
+      let listed = IsConfig-kept keeps now in
+      told.at c now ∙ (λ i. sym (keeps.at w.prepared.live.0 c owns.prepared.live listed) i && is_empty (sym (faults_at-Keeps w.runs.held.items c keeps owns.runs.held listed) i));
 }
 
--- what is put out of a list, and left of it, as the walk goes on
-module _ (files : List (List ℕ)) {names more : List (List ℕ)} {old new : Sets} (keeps : Keeps old new) (grows : Extends names more) (w next : Walk) (early : Early) (stored : IsStored old names (length files) w)
-    (settled : SettlesList files names old (macros_at old names w.table) w.gathered w.prepared.live.0 more new early)
-    (same : next ≡ record w { gathered = early.left; prepared = record w.prepared { list = next.prepared.list } }) (list : next.prepared.list ≡ w.prepared.list ++ early.put) where
-  abbrev shown : List base_token.Token → List Token
-  shown ts = map (seen more files) ts
+-- ---- a list has settled
+
+abbrev seen_text : (names files : List (List ℕ)) → List base_token.Token → List Token
+seen_text names files ts = map (seen names files) ts
+
+empty-none : {A : Type 0} (xs : List A) → is_empty xs ≡ true → xs ≡ []
+empty-none [] e = refl
+empty-none (x ∷ xs) e = absurd (cc)
+
+some-faults : (files : List (List ℕ)) (fs : List base.Fault) → map (moved_failure (seen_place files)) (map seen_failure fs) ≡ [] → is_empty fs ≡ false → ⊥
+some-faults files [] e some = true≢false some
+some-faults files (f ∷ fs) e some = cc
+
+idle-nothing : {provenance : Provenance base_place.Place} {macros : Macros} {source out rest : List (Hidden base_place.Place)} {failures : List (Failure base_place.Place)} {b : Bool} → b ≡ false → IsDone provenance macros source out rest failures b
+    → (failures ≡ []) × (rest ≡ [])
+idle-nothing is (running.unasked none left) = (none, left)
+idle-nothing is (running.settled none d) = absurd (true≢false is)
+idle-nothing is (running.refused failure one left d) = absurd (true≢false is)
+
+module _ (files : List (List ℕ)) {names more : List (List ℕ)} {old mid new : Sets} (keeps : Keeps old mid) (later : Keeps mid new) (grows : Extends names more) (w next : Walk) {hides : List (List Name)} (hides_grow : Extends w.runs.sets hides)
+    (live asked : Cond) (s : Settled) (stored : IsStored old names (length files) w) (ask : IsAsked old w live.0 asked.0)
+    (settles : IsSettled (stores old names w.runs.sets) (stores mid more hides) files (macros_at old names w.table) w.runs.gathered asked.0 s) (known : IsHeldSettled (stores mid more hides) (length files) s)
+    (puts : KeepsSettled mid (with-sets w hides) live.0 asked.0 s new next) where
+  abbrev v : Walk
+  v = with-sets w hides
+
+  first : LineStage files names old w [] more mid v (λ config m n. n ≡ m)
+  first = stays-stage files keeps grows w hides_grow stored
 
   module _ (c : List ℕ) (listed : IsConfig old.arities c) where
-    abbrev gathered-before : List Token
-    gathered-before = map (seen names files) (items_at old w.gathered c)
+    listed_mid : IsConfig mid.arities c
+    listed_mid = IsConfig-Keeps keeps listed
 
-    abbrev put-before : List Token
-    put-before = map (seen names files) (items_at old w.prepared.list c)
+    abbrev shown : List base_hidden.Hidden → List (Hidden Place)
+    shown hs = map (moved (seen_place files)) (map (seen_hidden more hides) hs)
 
-    gathered-now : items_at new next.gathered c ≡ items_at new early.left c
-    gathered-now = ap (λ (v : Walk). items_at new v.gathered c) same
+    gathered-now : (a l : Bool) → old.has asked.0 c ≡ a → old.has live.0 c ≡ l → hidden_at new more files hides next.runs.gathered c ≡ shown (items_at mid s.rest c) ++ (if l && not a then hidden_at mid more files hides w.runs.gathered c else [])
+    gathered-now a l is_asked is_live =
+        ap (λ xs. hidden_at new more files hides xs c) puts.gathered
+        ∙ (hidden_at-append new more files hides s.rest puts.left c
+        ∙ (ap (λ xs. shown xs ++ hidden_at new more files hides puts.left c) (items_at-Keeps s.rest c later known.rest.own listed_mid)
+        ∙ ap (λ xs. shown (items_at mid s.rest c) ++ xs) (ap shown (puts.stays.at c listed_mid
+        ∙ (λ i. if (keeps.at live.0 c ask.live.own listed ∙ is_live) i && not ((keeps.at asked.0 c ask.own listed ∙ is_asked) i) then items_at mid w.runs.gathered c else [])) ∙ by (l && not a))))
+      where
+        by : (b : Bool) → shown (if b then items_at mid w.runs.gathered c else []) ≡ (if b then hidden_at mid more files hides w.runs.gathered c else [])
+        by true = refl
+        by false = refl
 
-    put-now : shown (items_at new next.prepared.list c) ≡ put-before ++ shown (items_at new early.put c)
-    put-now =
-        ap (λ xs. shown (items_at new xs c)) list
-        ∙ (ap (λ xs. shown xs) (items_at-append new w.prepared.list early.put c)
-        ∙ (map-append (seen more files) (items_at new w.prepared.list c) (items_at new early.put c)
-        ∙ ap (λ xs. xs ++ shown (items_at new early.put c)) (shown-before grows files keeps w.prepared.list c stored.owns.prepared.list stored.held.list listed)))
+    done-is : seen_text more files (items_at mid s.done c) ≡ map token_of (shown (items_at mid settles.out c))
+    done-is = ap (λ xs. seen_text more files (items_at mid xs c)) settles.tokens ∙ (ap (seen_text more files) (items-bared mid settles.out c) ∙ seen-out more files hides (items_at mid settles.out c))
+
+    done-now : items_at new puts.done c ≡ (if old.has asked.0 c && has_none mid s.held.items c then items_at mid s.done c else [])
+    done-now = puts.puts.at c listed_mid ∙ ap (λ b. if b && has_none mid s.held.items c then items_at mid s.done c else []) (keeps.at asked.0 c ask.own listed)
+
+    list-now : (a n : Bool) → old.has asked.0 c ≡ a → has_none mid s.held.items c ≡ n → seen_text more files (items_at new next.prepared.list c)
+        ≡ seen_text more files (items_at new w.prepared.list c) ++ (if a && n then map token_of (shown (items_at mid settles.out c)) else [])
+    list-now a n is_asked is_none =
+        ap (λ xs. seen_text more files (items_at new xs c)) puts.list
+        ∙ (items_seen-append new more files w.prepared.list puts.done c
+        ∙ ap (λ xs. seen_text more files (items_at new w.prepared.list c) ++ xs) (ap (seen_text more files) (done-now ∙ (λ i. if is_asked i && is_none i then items_at mid s.done c else [])) ∙ by (a && n)))
+      where
+        by : (b : Bool) → seen_text more files (if b then items_at mid s.done c else []) ≡ (if b then map token_of (shown (items_at mid settles.out c)) else [])
+        by true = done-is
+        by false = refl
+
+    held-now : held_at new files next.runs.held.items c ≡ held_at new files w.runs.held.items c ++ map (moved_failure (seen_place files)) (failures_at mid s.held.items c)
+    held-now =
+        ap (λ fs. held_at new files fs c) puts.held
+        ∙ (held_at-append new files w.runs.held.items s.held.items c
+        ∙ ap (λ fs. held_at new files w.runs.held.items c ++ map (moved_failure (seen_place files)) (map seen_failure fs)) (faults_at-Keeps s.held.items c later known.faults_own listed_mid))
+
+    held-before : held_at new files w.runs.held.items c ≡ held_at old files w.runs.held.items c
+    held-before = ap (λ fs. map (moved_failure (seen_place files)) (map seen_failure fs)) (faults_at-Keeps w.runs.held.items c (Keeps-trans keeps later) stored.owns.runs.held listed)
+
+    -- who is asked for has no fault
+    not-held : old.has asked.0 c ≡ true → held_at old files w.runs.held.items c ≡ []
+    not-held here =
+        let parts = and_parts (old.has w.prepared.live.0 c) (has_none old w.runs.held.items c) (sym (ask.live.at c listed) ∙ ask.within c listed here) in
+        ap (λ fs. map (moved_failure (seen_place files)) (map seen_failure fs)) (empty-none (faults_at old w.runs.held.items c) parts.1)
 
     module _ (m : Machine) (simulates : Simulates old names files w c m) where
-      now : Simulates new more files w c m
-      now = simulates-grown grows files w any_token (length files) c m (IsTable-Keeps keeps stored.table) stored.held (simulates-kept keeps w stored.owns names files c m listed stored.table simulates)
+      now : Simulates new more files v c m
+      now =
+          let a = first.simulates.at c m listed simulates in
+          simulates-kept later v first.simulates.owns more files c m listed_mid first.simulates.table (subst (Simulates mid more files v c) a.done a.simulates)
 
-      settles-here : m.fault ≡ None → (out : List (Hidden Place)) → Settles place_alone (macros_at old names w.table c) (map unhidden gathered-before) out (map unhidden (shown (items_at new early.left c)))
-          → Settles place_alone m.state.macros (map unhidden gathered-before) out (map unhidden (shown (items_at new early.left c)))
-      settles-here none out settles_to =
-          let macros : macros_at old names w.table c ≡ m.state.macros = λ i. λ name. simulates.macros none name i in
-          subst (λ ms. Settles place_alone ms (map unhidden gathered-before) out (map unhidden (shown (items_at new early.left c)))) macros settles_to
+      abbrev text-before : List (Hidden Place)
+      text-before = hidden_at old names files w.runs.sets w.runs.gathered c
 
-      text-now : (none : m.fault ≡ None) → PutsFirst (macros_at old names w.table c) files names (items_at old w.gathered c) more (items_at new early.put c) (items_at new early.left c)
-          → HasText m.state (shown (items_at new next.gathered c)) (shown (items_at new next.prepared.list c))
-      text-now none (stays nothing all) =
-          text-as (ap (λ xs. shown xs) (gathered-now ∙ all) ∙ tokens-grown files grows (items_at old w.gathered c) (items_at-All (IsHeld names) old w.gathered c (λ k d h. (stored.held.gathered k d h).held)))
-          (put-now ∙ (ap (λ xs. put-before ++ shown xs) nothing ∙ append-nil put-before)) (simulates.text none)
-      text-now none (settles out settles_to put) =
-          text-as (ap (λ xs. shown xs) gathered-now) (put-now ∙ ap (λ ts. put-before ++ ts) put)
-          (text-settles m.state gathered-before put-before (shown (items_at new early.left c)) out (simulates.text none) (settles-here none out settles_to))
+      put-before : seen_text more files (items_at new w.prepared.list c) ≡ seen_text names files (items_at old w.prepared.list c)
+      put-before = shown-before files grows (Keeps-trans keeps later) w.prepared.list c stored.owns.prepared.list stored.held.list listed
 
-      -- what is put out is spelled on one line
-      put-plain : IsPlainState m.state → m.fault ≡ None → PutsFirst (macros_at old names w.table c) files names (items_at old w.gathered c) more (items_at new early.put c) (items_at new early.left c)
-          → All (λ (t : base_token.Token). is_plain more t ≡ true) (items_at new early.put c)
-      put-plain plain none (stays nothing all) = subst (All (λ (t : base_token.Token). is_plain more t ≡ true)) (sym nothing) (All-nil (λ (t : base_token.Token). is_plain more t ≡ true))
-      put-plain plain none (settles out settles_to put) =
-          plain-seen more files (items_at new early.put c) (map token_of out) put
-          (settles-plain m.state.macros plain.macros gathered-before out (map unhidden (shown (items_at new early.left c)))
-          (text-every IsPlainToken m.state gathered-before put-before (simulates.text none) plain.run) (settles-here none out settles_to))
+      abbrev TextNow : Type 0
+      TextNow = HasText m.state (hidden_at new more files hides next.runs.gathered c) (seen_text more files (items_at new next.prepared.list c)) (held_at new files next.runs.held.items c)
+
+      module _ (none : m.fault ≡ None) where
+        macros : macros_at old names w.table c ≡ m.state.macros
+        macros = λ i name. simulates.macros none name i
+
+        module _ (here : old.has asked.0 c ≡ true) where
+          has-before : HasText m.state text-before (seen_text names files (items_at old w.prepared.list c)) []
+          has-before = text-as refl refl (sym (not-held here)) (simulates.text none).text
+
+          settles-here : Settles (provenance_of files) (macros_at old names w.table c) (seen_at (stores old names w.runs.sets) w.runs.gathered c) (seen_at (stores mid more hides) settles.out c) (seen_at (stores mid more hides) s.rest c)
+              → Settles place_alone m.state.macros text-before (shown (items_at mid settles.out c)) (shown (items_at mid s.rest c))
+          settles-here d = subst (λ ms. Settles place_alone ms text-before (shown (items_at mid settles.out c)) (shown (items_at mid s.rest c))) macros (settles-moved (seen_place files) (places-kept files) (macros_at old names w.table c) d)
+
+          asked-text : (b : Bool) → b ≡ true → IsDone (provenance_of files) (macros_at old names w.table c) (seen_at (stores old names w.runs.sets) w.runs.gathered c) (seen_at (stores mid more hides) settles.out c) (seen_at (stores mid more hides) s.rest c) (failures_at mid s.held.items c) b
+              → TextNow
+          asked-text b is (running.unasked clean left) = absurd (true≢false (sym is))
+          asked-text b is (running.settled clean d) =
+              text-as (gathered-now true true here (ask.within c listed here) ∙ append-nil (shown (items_at mid s.rest c)))
+              (list-now true true here (empty-seen seen_failure (faults_at mid s.held.items c) clean) ∙ ap (λ ts. ts ++ map token_of (shown (items_at mid settles.out c))) put-before)
+              (held-now ∙ (λ i. (held-before ∙ not-held here) i ++ map (moved_failure (seen_place files)) (clean i)))
+              (text-settles m.state text-before (seen_text names files (items_at old w.prepared.list c)) (shown (items_at mid settles.out c)) (shown (items_at mid s.rest c)) has-before (settles-here d))
+          asked-text b is (running.refused failure one left d) =
+              text-as (gathered-now true true here (ask.within c listed here) ∙ (append-nil (shown (items_at mid s.rest c)) ∙ ap (map (moved (seen_place files))) left))
+              (list-now true false here (some-seen seen_failure (faults_at mid s.held.items c) failure [] one) ∙ (append-nil (seen_text more files (items_at new w.prepared.list c)) ∙ put-before))
+              (held-now ∙ (λ i. (held-before ∙ not-held here) i ++ map (moved_failure (seen_place files)) (one i)))
+              (text-refused m.state text-before (seen_text names files (items_at old w.prepared.list c)) (moved_failure (seen_place files) failure) has-before
+              (subst (λ ms. IsHeld place_alone ms text-before (moved_failure (seen_place files) failure)) macros (held-moved (seen_place files) (places-kept files) (macros_at old names w.table c) d)))
+
+          -- what is put out is spelled on one line
+          asked-plain : IsPlainState m.state → has_none mid s.held.items c ≡ true → (b : Bool) → b ≡ true
+              → IsDone (provenance_of files) (macros_at old names w.table c) (seen_at (stores old names w.runs.sets) w.runs.gathered c) (seen_at (stores mid more hides) settles.out c) (seen_at (stores mid more hides) s.rest c) (failures_at mid s.held.items c) b
+              → All (λ (t : base_token.Token). is_plain more t ≡ true) (items_at mid s.done c)
+          asked-plain plain free b is (running.unasked clean left) = absurd (true≢false (sym is))
+          asked-plain plain free b is (running.settled clean d) =
+              let gathered = text-plain m.state plain.macros plain.run text-before _ _ (not-held here) (simulates.text none).text in
+              plain-seen more files (items_at mid s.done c) (map token_of (shown (items_at mid settles.out c))) done-is (settles-plain m.state.macros plain.macros text-before _ _ gathered (settles-here d)).0
+          asked-plain plain free b is (running.refused failure one left d) = absurd (true≢false (sym free ∙ some-seen seen_failure (faults_at mid s.held.items c) failure [] one))
+
+        module _ (idle : old.has asked.0 c ≡ false) where
+          idle-done : (failures_at mid s.held.items c ≡ []) × (seen_at (stores mid more hides) s.rest c ≡ [])
+          idle-done = idle-nothing idle (settles.is c listed)
+
+          idle-text : (l : Bool) → old.has live.0 c ≡ l → TextNow
+          idle-text l is_live =
+              text-as (gathered-now false l idle is_live ∙ (ap (λ hs. map (moved (seen_place files)) hs ++ (if l && true then hidden_at mid more files hides w.runs.gathered c else [])) idle-done.1))
+              (list-now false (has_none mid s.held.items c) idle refl ∙ append-nil (seen_text more files (items_at new w.prepared.list c)))
+              (held-now ∙ (ap (λ fs. held_at new files w.runs.held.items c ++ map (moved_failure (seen_place files)) fs) idle-done.0 ∙ append-nil (held_at new files w.runs.held.items c)))
+              (by l is_live)
+            where
+              by : (l : Bool) → old.has live.0 c ≡ l
+                  → HasText m.state (if l && true then hidden_at mid more files hides w.runs.gathered c else []) (seen_text more files (items_at new w.prepared.list c)) (held_at new files w.runs.held.items c)
+              by true is = text-as (ap shown (sym (items_at-Keeps w.runs.gathered c later first.simulates.owns.runs.gathered listed_mid))) refl refl (now.text none).text
+              by false is = text-held [] (λ empty. some-faults files (faults_at old w.runs.held.items c) (sym held-before ∙ empty)
+                  (ap (λ b. b && has_none old w.runs.held.items c) (sym (simulates.prepared.live ∙ ap is_none none)) ∙ (sym (ask.live.at c listed) ∙ is))) (now.text none).text
+
+        text-then : (b : Bool) → old.has asked.0 c ≡ b → TextNow
+        text-then true here = asked-text here (old.has asked.0 c) here (settles.is c listed)
+        text-then false idle = idle-text idle (old.has live.0 c) refl
 
       stays-there : Simulates new more files next c m
-      stays-there = subst (λ (v : Walk). Simulates new more files v c m) (sym same) (record {
+      stays-there = subst (λ (u : Walk). Simulates new more files u c m) (sym puts.same) (record {
         active = now.active;
         acting = now.acting;
         sections = now.sections;
         prepared = record { live = now.prepared.live; fault = now.prepared.fault };
-        text = λ none. subst (λ (v : Walk). HasText m.state (shown (items_at new v.gathered c)) (shown (items_at new next.prepared.list c))) same
-            (text-now none (settled.at c listed (simulates.prepared.live ∙ ap is_none none)));
+        text = λ none. record { run = (now.text none).run; text = text-then none (old.has asked.0 c) refl };
         macros = now.macros;
         once = now.once;
       })
 
-    plain-at : PlainEach old names files w any_machine → (b : Bool) → old.has w.prepared.live.0 c ≡ b → All (λ (t : base_token.Token). is_plain more t ≡ true) (items_at new early.put c)
-    plain-at each true here = let at = each.each c listed in put-plain at.0 at.1 at.3 (unfaulty at.0.fault (sym at.1.prepared.live ∙ here)) (settled.at c listed here)
-    plain-at each false idle = subst (All (λ (t : base_token.Token). is_plain more t ≡ true)) (sym (settled.others c listed idle)) (All-nil (λ (t : base_token.Token). is_plain more t ≡ true))
+    plain-at : PlainEach old names files w any_machine → (a n : Bool) → old.has asked.0 c ≡ a → has_none mid s.held.items c ≡ n → All (λ (t : base_token.Token). is_plain more t ≡ true) (if a && n then items_at mid s.done c else [])
+    plain-at each true true here free =
+        let at = each.each c listed in
+        let parts = and_parts (old.has w.prepared.live.0 c) (has_none old w.runs.held.items c) (sym (ask.live.at c listed) ∙ ask.within c listed here) in
+        asked-plain at.0 at.1 (unfaulty at.0.fault (sym at.1.prepared.live ∙ parts.0)) here at.3 free (old.has asked.0 c) here (settles.is c listed)
+    plain-at each true false here held = All-nil (λ (t : base_token.Token). is_plain more t ≡ true)
+    plain-at each false n idle is = All-nil (λ (t : base_token.Token). is_plain more t ≡ true)
+
+    -- what is left of it, or what waits becomes where nothing follows
+    abbrev EndsHere : Type 0
+    EndsHere = (hidden_at new more files hides next.runs.gathered c ≡ [])
+        ⊎ ((held_at new files next.runs.held.items c ≡ [])
+        × Expands place_alone (macros_at old names w.table c) (hidden_at new more files hides next.runs.gathered c) (closed (hidden_at new more files hides next.runs.gathered c)))
+
+    ends-here : old.has w.acting.0 c ≡ true → (a : Bool) → old.has asked.0 c ≡ a → EndsHere
+    ends-here acting true here = by (old.has asked.0 c) here (settles.is c listed)
+      where
+        all-shown : hidden_at new more files hides next.runs.gathered c ≡ shown (items_at mid s.rest c)
+        all-shown = gathered-now true true here (ask.within c listed here) ∙ append-nil (shown (items_at mid s.rest c))
+
+        by : (b : Bool) → b ≡ true → IsDone (provenance_of files) (macros_at old names w.table c) (seen_at (stores old names w.runs.sets) w.runs.gathered c) (seen_at (stores mid more hides) settles.out c) (seen_at (stores mid more hides) s.rest c) (failures_at mid s.held.items c) b
+            → EndsHere
+        by b is (running.unasked none left) = absurd (true≢false (sym is))
+        by b is (running.settled none d) = inr (
+          held-now ∙ (λ i. (held-before ∙ not-held here) i ++ map (moved_failure (seen_place files)) (none i)),
+          subst (λ hs. Expands place_alone (macros_at old names w.table c) hs (closed hs)) (sym all-shown)
+              (settled-expands (macros_at old names w.table c) (settles-moved (seen_place files) (places-kept files) (macros_at old names w.table c) d)),
+        )
+        by b is (running.refused failure one left d) = inl (all-shown ∙ ap (map (moved (seen_place files))) left)
+    ends-here acting false idle =
+        inl (gathered-now false false idle (not-live (old.has live.0 c) refl) ∙ (append-nil (shown (items_at mid s.rest c)) ∙ ap (map (moved (seen_place files))) (idle-nothing idle (settles.is c listed)).1))
+      where
+        not-live : (l : Bool) → old.has live.0 c ≡ l → old.has live.0 c ≡ false
+        not-live true is = absurd (true≢false (sym (ask.acting c listed is acting) ∙ idle))
+        not-live false is = is
 
   owned : Owns new next
   owned =
-      let kept = owns-kept keeps w stored.owns in
-      let IsOwn : Cond × base_token.Token → Type 0 = λ item. IsCond new item.0.0 in
-      subst (Owns new) (sym same) (record {
+      let kept = owns-kept later v first.simulates.owns in
+      let H : Cond × base_hidden.Hidden → Type 0 = λ item. IsCond new item.0.0 in
+      let T : Cond × base_token.Token → Type 0 = λ item. IsCond new item.0.0 in
+      let F : base.Fault → Type 0 = λ f. IsCond new f.cond.0 in
+      subst (Owns new) (sym puts.same) (record {
         group = kept.group;
         acting = kept.acting;
         sections = kept.sections;
-        gathered = settled.part.own;
+        runs = record {
+          gathered = subst (All H) (sym puts.gathered) (All-append H s.rest puts.left (λ k d h. later.own _ (known.rest.own k d h)) puts.stays.part.own);
+          held = subst (All F) (sym puts.held) (All-append F w.runs.held.items s.held.items kept.runs.held (λ k d h. later.own _ (known.faults_own k d h)));
+          read = kept.runs.read;
+        };
         once = kept.once;
         prepared = record {
-          list = subst (All IsOwn) (sym list) (All-append IsOwn w.prepared.list early.put kept.prepared.list settled.own);
+          list = subst (All T) (sym puts.list) (All-append T w.prepared.list puts.done kept.prepared.list puts.puts.part.own);
           faults = kept.prepared.faults;
           live = kept.prepared.live;
         };
@@ -120,11 +293,19 @@ module _ (files : List (List ℕ)) {names more : List (List ℕ)} {old new : Set
 
   still-held : IsHeldWalk more (length files) any_token next
   still-held =
-      let was = held-later grows (Extends-refl files) w stored.held in
-      let P : Cond × base_token.Token → Type 0 = λ item. IsPlaced more (length files) item.1 in
-      subst (IsHeldWalk more (length files) any_token) (sym same) (record {
-        gathered = settled.part.placed more (length files) was.gathered;
-        list = subst (All P) (sym list) (All-append P w.prepared.list early.put was.list settled.placed);
+      let was = first.held in
+      let H : base_hidden.Hidden → Type 0 = λ h. IsHeldHidden more hides h × (h.token.place.file.0 < length files) in
+      let P : base_token.Token → Type 0 = IsPlaced more (length files) in
+      let F : base.Fault → Type 0 = λ f. f.place.file.0 < length files in
+      subst (IsHeldWalk more (length files) any_token) (sym puts.same) (record {
+        runs = record {
+          gathered = subst (All (λ (item : Cond × base_hidden.Hidden). H item.1)) (sym puts.gathered) (All-append (λ (item : Cond × base_hidden.Hidden). H item.1) s.rest puts.left
+              (λ k d h. let t = known.rest.held k d h in (t.held, t.file)) (part-All H puts.stays.part was.runs.gathered));
+          held = subst (All F) (sym puts.held) (All-append F w.runs.held.items s.held.items was.runs.held known.faults_placed);
+          read = was.runs.read;
+        };
+        list = subst (All (λ (item : Cond × base_token.Token). P item.1)) (sym puts.list) (All-append (λ (item : Cond × base_token.Token). P item.1) w.prepared.list puts.done was.list
+            (part-All P puts.puts.part (λ k d h. record { held = known.held k d h; file = known.placed k d h })));
         passed = λ k d h. refl;
         faults = was.faults;
         once = was.once;
@@ -133,23 +314,35 @@ module _ (files : List (List ℕ)) {names more : List (List ℕ)} {old new : Set
   still-plain : PlainEach old names files w any_machine → AllPass (is_plain names) w.prepared.list → AllPass (is_plain more) next.prepared.list
   still-plain each was =
       let Q : Cond × base_token.Token → Type 0 = λ item. is_plain more item.1 ≡ true in
-      subst (All Q) (sym list)
-      (All-append Q w.prepared.list early.put (plain-grown grows (length files) w.prepared.list stored.held.list was)
-      (plain-by new more early.put (λ c last. plain-at c (IsConfig-kept keeps last) each (old.has w.prepared.live.0 c) refl) settled.some))
+      subst (All Q) (sym puts.list)
+      (All-append Q w.prepared.list puts.done (plain-grown grows (length files) w.prepared.list stored.held.list was)
+      (plain-by new more puts.done (λ c last.
+      let listed = IsConfig-kept (Keeps-trans keeps later) last in
+      subst (All (λ (t : base_token.Token). is_plain more t ≡ true)) (sym (done-now c listed)) (plain-at c listed each (old.has asked.0 c) (has_none mid s.held.items c) refl refl)) puts.puts.part.some))
 
   pub settled-stage : LineStage files names old w [] more new next (λ config m n. n ≡ m)
   settled-stage = record {
     simulates = record {
       owns = owned;
-      table = subst (λ (v : Walk). IsTable new more v.table) (sym same) (IsTable-Extends grows (IsTable-Keeps keeps stored.table));
+      table = subst (λ (u : Walk). IsTable new more u.table) (sym puts.same) (IsTable-Keeps later first.simulates.table);
       at = λ c m listed simulates. record { machine = m; done = refl; simulates = stays-there c listed m simulates };
     };
     held = still-held;
     plain = still-plain;
-    gathers = gathers-part [] w next (subst (λ (v : Walk). IsPart w.gathered new v.gathered) (sym same) settled.part);
+    gathers = λ rest apart. subst (λ (u : Walk). StandApart (tokens_read u.runs.read ++ rest)) (sym puts.same) apart;
   }
 
--- ---- the runs are closed then
+  pub has-settled : HasSettled new more files next
+  has-settled c now acting =
+      let listed = IsConfig-kept (Keeps-trans keeps later) now in
+      let all = Keeps-trans keeps later in
+      let acts : old.has w.acting.0 c ≡ true = sym (all.at w.acting.0 c stored.owns.acting listed) ∙ (ap (λ (u : Walk). new.has u.acting.0 c) (sym puts.same) ∙ acting) in
+      let macros : macros_at new more w.table c ≡ macros_at old names w.table c = λ i name. (macros_at-Extends grows (IsTable-Keeps all stored.table) c name ∙ macros_at-Keeps all stored.table c name listed) i in
+      let Ends : List (List Name) → Macros → Type 0 = λ sets ms. (hidden_at new more files sets next.runs.gathered c ≡ []) ⊎ ((held_at new files next.runs.held.items c ≡ [])
+      × Expands place_alone ms (hidden_at new more files sets next.runs.gathered c) (closed (hidden_at new more files sets next.runs.gathered c))) in
+      subst (λ (u : Walk). Ends u.runs.sets (macros_at new more u.table c)) (sym puts.same) (subst (Ends hides) (sym macros) (ends-here c listed acts (old.has asked.0 c) refl))
+
+-- ---- and then another stage
 
 module _ {files names more : List (List ℕ)} {old mid : Sets} {w v : Walk} (keeps : Keeps old mid) (first : LineStage files names old w [] more mid v (λ config m n. n ≡ m)) where
   pub stage-stored : IsStored mid more (length files) v
@@ -174,12 +367,12 @@ module _ {files names more : List (List ℕ)} {old mid : Sets} {w v : Walk} (kee
   }
 
   -- where closing them stops
-  pub settled-stops : {K V : Type 0} {comes : List ℕ → Machine → K × V → Type 0} (limit : ℕ) (stop : Stop) → StopsStage mid more files v (tokens_in v.gathered) comes limit stop
-      → StopsStage old names files w (tokens_in w.gathered) comes limit stop
+  pub settled-stops : {K V : Type 0} {comes : List ℕ → Machine → K × V → Type 0} (limit : ℕ) (stop : Stop) → StopsStage mid more files v (tokens_read v.runs.read) comes limit stop
+      → StopsStage old names files w (tokens_read w.runs.read) comes limit stop
   settled-stops {comes = comes} limit stop stops = record {
     by = subst (λ arities. StopsBy arities limit stop) keeps.arities stops.by;
     at_place = λ apart.
-        let there = stops.at_place (subst StandApart (append-nil (tokens_in v.gathered)) (first.gathers [] (subst StandApart (sym (append-nil (tokens_in w.gathered))) apart))) in
+        let there = stops.at_place (subst StandApart (append-nil (tokens_read v.runs.read)) (first.gathers [] (subst StandApart (sym (append-nil (tokens_read w.runs.read))) apart))) in
         stops-as (λ at. at) (Comes old names files w any_machine comes) limit stop (λ c f listed has m simulates _. has m (same-machine c m listed simulates) tt)
         (subst (λ arities. StopsAtPlace arities (Comes mid more files v any_machine comes) limit stop) keeps.arities there);
   }

@@ -1,118 +1,158 @@
--- The text of a run of which a part was put out before its end.
-use Rattle.std.proofs.Common.{◌≡◌, ℕ, Bool, true, false, List, [], ◌∷◌, ◌++◌, append-nil, append_assoc, drop, map, take, Result, Ok, Err, refl, sym, ap, ◌∙◌, subst, if◌then◌else◌}
-use Rattle.c11_macros.proofs.RunExpands.{passes-expand}
-use Rattle.c11_macros.proofs.Settling.{passes-more, passes-then}
-use Rattle.c11_macros.specs.Expansion.{IsWithin}
-use Rattle.c11_macros.specs.Footprint as arriving
-use Rattle.sc_expand.proofs.PassesLaws.{passes-end}
-use Rattle.sc_expand.proofs.RunFootprints.{passes-arrives}
+-- The text of a run of which a first part has settled, as the run goes on and where it ends.
+use Rattle.std.proofs.Common.{◌≡◌, ◌⊎◌, inl, inr, List, [], ◌∷◌, ◌++◌, append-nil, append_assoc, map, Result, Ok, Err, refl, sym, ap, ◌∙◌, subst}
+use Rattle.std.proofs.lemmas.List.{map-append}
+use Rattle.c11_directives.specs.Lines.{Line}
+use Rattle.c11_directives.specs.Pre.{State, with_text}
+use Rattle.c11_macros.proofs.SettledLists.{held-more, settles-more}
+use Rattle.c11_macros.proofs.Settling.{held-again, settle-again}
+use Rattle.c11_macros.specs.Expansion.{Expands, empty}
+use Rattle.c11_macros.specs.Hidden.{Failure, Hidden}
+use Rattle.c11_macros.specs.Macros.{Macros}
+use Rattle.c11_macros.specs.Runs.{IsHeld, Passes, Runs, Settles, Uses, after_these, alone, begins, call, goes_on, held, object, open_call, open_end, stay, waits, whole}
+use Rattle.c11_macros.specs.Text.{TextExpands, fault_of, place_alone, text_of_answer, token_of, unhidden}
+use Rattle.sc_expand.proofs.SettledEnds.{settles-closed}
+use Rattle.sc_expand.specs.Open.{closed}
 use Rattle.sc_model.specs.Token.{Place, Token}
-use Rattle.sc_prep.proofs.Facts.{drop-map, map-append, take-append-drop}
-use Rattle.sc_prep.proofs.OwnNames.{every-behind, settles-passes, unhidden-bare}
-use Rattle.sc_prep.proofs.Terms.{AllByRecursion as Every, Arrives, Failure, Fault, HasText, Hidden, Line, Macros, NameHas, Passes, Settles, Spot, State, TextExpands, Used, after_these, begins, goes_on, place_alone, put_out, text_of_answer, token_of, unhidden, with_text}
+use Rattle.sc_prep.specs.Gathered.{HasText, refused, settling}
+
+abbrev hidden : List Token → List (Hidden Place)
+hidden ts = map unhidden ts
 
 -- nothing was put out of it
-pub nothing-settled : (s : State) (gathered list : List Token) → s.run ≡ gathered → list ≡ s.output → HasText s gathered list
-nothing-settled s gathered list run is = record {
-  out = [];
-  passes = subst (λ ts. Passes place_alone s.macros (map unhidden s.run) [] (map unhidden ts)) run begins;
-  put = is ∙ sym (append-nil s.output);
-}
+pub text-begins : (s : State) (gathered : List (Hidden Place)) (list : List Token) → gathered ≡ hidden s.run → list ≡ s.output → HasText s gathered list []
+text-begins s gathered list all is = settling [] s.run [] [] refl (whole begins) all (is ∙ sym (append-nil s.output))
 
 -- the same lists
-pub text-as : {s : State} {gathered list tokens put : List Token} → tokens ≡ gathered → put ≡ list → HasText s gathered list → HasText s tokens put
-text-as {s} same_tokens same_put has = record {
-  out = has.out;
-  passes = subst (λ ts. Passes place_alone s.macros (map unhidden s.run) has.out (map unhidden ts)) (sym same_tokens) has.passes;
-  put = same_put ∙ has.put;
-}
+pub text-as : {s : State} {gathered tokens : List (Hidden Place)} {list put : List Token} {faults told : List (Failure Place)} → tokens ≡ gathered → put ≡ list → told ≡ faults
+    → HasText s gathered list faults → HasText s tokens put told
+text-as {s} {gathered} {list = list} {put} {told = told} same_tokens same_put same_faults has =
+    subst (λ ts. HasText s ts put told) (sym same_tokens) (subst (λ ts. HasText s gathered ts told) (sym same_put) (subst (HasText s gathered list) (sym same_faults) has))
 
 -- more is gathered
-pub text-more : (b : Bool) (s : State) (line : Line) (gathered list : List Token) → HasText s gathered list
-    → HasText (if b then with_text s line else s) (if b then gathered ++ line.tokens else gathered) list
-text-more true s line gathered list has = record {
-  out = has.out;
-  passes = subst (λ ts. Passes place_alone s.macros ts has.out (map unhidden (gathered ++ line.tokens))) (sym (map-append unhidden s.run line.tokens))
-      (subst (Passes place_alone s.macros (map unhidden s.run ++ map unhidden line.tokens) has.out) (sym (map-append unhidden gathered line.tokens)) (passes-more place_alone s.macros (map unhidden line.tokens) has.passes));
-  put = has.put;
-}
-text-more false s line gathered list has = has
+run-more : (s : State) (line : Line) (before new : List Token) → s.run ≡ before ++ new → (with_text s line).run ≡ before ++ (new ++ line.tokens)
+run-more s line before new run = ap (λ ts. ts ++ line.tokens) run ∙ append_assoc before new line.tokens
 
--- what is gathered settles up to these
-pub text-settles : (s : State) (gathered list left : List Token) (done : List (Hidden Place)) → HasText s gathered list → Settles place_alone s.macros (map unhidden gathered) done (map unhidden left)
-    → HasText s left (list ++ map token_of done)
-text-settles s gathered list left done has settles = record {
-  out = has.out ++ done;
-  passes = passes-then place_alone s.macros has.passes (settles-passes place_alone s.macros settles (unhidden-bare left));
-  put = ap (λ ts. ts ++ map token_of done) has.put ∙ (append_assoc s.output (map token_of has.out) (map token_of done) ∙ ap (λ ts. s.output ++ ts) (sym (map-append token_of has.out done)));
-}
+pub text-more : (s : State) (line : Line) (gathered : List (Hidden Place)) (list : List Token) (faults : List (Failure Place)) → HasText s gathered list faults → HasText (with_text s line) (gathered ++ hidden line.tokens) list faults
+text-more s line gathered list _ (settling before new out left run settles all is) =
+    settling before (new ++ line.tokens) out left (run-more s line before new run) settles
+    (ap (λ hs. hs ++ hidden line.tokens) all ∙ (append_assoc left (hidden new) (hidden line.tokens) ∙ ap (λ hs. left ++ hs) (sym (map-append unhidden new line.tokens)))) is
+text-more s line gathered list _ (refused before new failure run is) = refused before (new ++ line.tokens) failure (run-more s line before new run) is
 
--- ---- the end of the run is gathered
+-- what is gathered doesn't count where a fault holds the run
+pub text-held : {s : State} {gathered : List (Hidden Place)} (tokens : List (Hidden Place)) {list : List Token} {faults : List (Failure Place)} → (faults ≡ [] → ⊥) → HasText s gathered list faults → HasText s tokens list faults
+text-held tokens some (settling before new out left run settles all is) = absurd (some refl)
+text-held tokens some (refused before new failure run is) = refused before new failure run is
 
-shown : (ts : List Token) → map token_of (map unhidden ts) ≡ ts
-shown [] = refl
-shown (t ∷ ts) = ap (λ us. t ∷ us) (shown ts)
+module _ (s : State) (gathered : List (Hidden Place)) (list : List Token) where
+  all-run : (before new : List Token) → s.run ≡ before ++ new → hidden before ++ hidden new ≡ hidden s.run
+  all-run before new run = sym (ap hidden run ∙ map-append unhidden before new)
 
--- what holds of all of it holds of these
-pub text-every : (C : Token → Type 0) (s : State) (gathered list : List Token) → HasText s gathered list → Every C s.run → Every C gathered
-text-every C s gathered list has all =
-    let end = passes-end place_alone s.macros has.passes in
-    let same : gathered ≡ drop end.0 s.run = sym (shown gathered) ∙ (ap (map token_of) (end.1 ∙ drop-map unhidden end.0 s.run) ∙ shown (drop end.0 s.run)) in
-    subst (Every C) (sym same) (every-behind C (take end.0 s.run) (drop end.0 s.run) (subst (Every C) (sym (take-append-drop end.0 s.run)) all))
+  -- what is gathered settles again
+  pub text-settles : (done rest : List (Hidden Place)) → HasText s gathered list [] → Settles place_alone s.macros gathered done rest → HasText s rest (list ++ map token_of done) []
+  text-settles done rest (settling before new out left run settles all is) again =
+      settling s.run [] (out ++ done) rest (sym (append-nil s.run))
+      (subst (λ ts. Settles place_alone s.macros ts (out ++ done) rest) (all-run before new run)
+      (settle-again place_alone s.macros (hidden before) (hidden new) settles (subst (λ ts. Settles place_alone s.macros ts done rest) all again)))
+      (sym (append-nil rest))
+      (ap (λ ts. ts ++ map token_of done) is ∙ (append_assoc s.output (map token_of out) (map token_of done) ∙ ap (λ ts. s.output ++ ts) (sym (map-append token_of out done))))
+
+  -- or is refused, whatever follows
+  pub text-refused : (failure : Failure Place) → HasText s gathered list [] → IsHeld place_alone s.macros gathered failure → HasText s [] list (failure ∷ [])
+  text-refused failure (settling before new out left run settles all is) fails =
+      refused s.run [] failure (sym (append-nil s.run))
+      (subst (λ ts. IsHeld place_alone s.macros ts failure) (all-run before new run)
+      (held-again place_alone s.macros (hidden before) (hidden new) settles (subst (λ ts. IsHeld place_alone s.macros ts failure) all fails)))
+
+  -- ---- the run's end
+
+  -- the run expands to what was put out of it, and what the gathered tokens become
+  pub text-expands : (r : Result (List (Hidden Place)) (Failure Place)) → HasText s gathered list [] → Expands place_alone s.macros gathered r
+      → (out : List (Hidden Place)) × (list ≡ s.output ++ map token_of out) × TextExpands s.macros s.run (text_of_answer (after_these out r))
+  text-expands r (settling before new out left run settles all is) expands = (
+    out,
+    is,
+    record {
+      answer = after_these out r;
+      expands = subst (λ ts. Expands place_alone s.macros ts (after_these out r)) (all-run before new run)
+          (settles-more place_alone s.macros (hidden new) r settles (subst (λ ts. Expands place_alone s.macros ts r) all expands));
+      is = refl;
+    },
+  )
+
+  -- or has the fault that holds it
+  pub text-fails : (failure : Failure Place) → HasText s gathered list (failure ∷ []) → TextExpands s.macros s.run (Err (fault_of failure))
+  text-fails failure (refused before new _ run is) = record {
+    answer = Err failure;
+    expands = subst (λ ts. Expands place_alone s.macros ts (Err failure)) (all-run before new run) (held-more place_alone s.macros (hidden new) is);
+    is = refl;
+  }
+
+-- where nothing is left of it, or it has settled and nothing holds it
+pub data TextEnds (s : State) (gathered : List (Hidden Place)) (list : List Token) (faults : List (Failure Place)) : Type 0 where
+  puts : (out : List (Hidden Place)) → list ≡ s.output ++ map token_of out → faults ≡ [] → TextExpands s.macros s.run (text_of_answer (after_these out (closed gathered))) → TextEnds s gathered list faults
+  fails : (failure : Failure Place) → faults ≡ failure ∷ [] → gathered ≡ [] → TextExpands s.macros s.run (Err (fault_of failure)) → TextEnds s gathered list faults
+
+pub text-ends : {s : State} {gathered : List (Hidden Place)} {list : List Token} {faults : List (Failure Place)} → (gathered ≡ []) ⊎ ((faults ≡ []) × Expands place_alone s.macros gathered (closed gathered)) → HasText s gathered list faults
+    → TextEnds s gathered list faults
+text-ends {s} {gathered} {list} ends (settling before new out left run settles all is) =
+    let at = text-expands s gathered list (closed gathered) (settling before new out left run settles all is) (by ends) in
+    puts at.0 at.1 refl at.2
+  where
+    by : (gathered ≡ []) ⊎ (◌≡◌ {A = List (Failure Place)} [] [] × Expands place_alone s.macros gathered (closed gathered)) → Expands place_alone s.macros gathered (closed gathered)
+    by (inl nothing) = subst (λ hs. Expands place_alone s.macros hs (closed hs)) (sym nothing) empty
+    by (inr both) = both.1
+text-ends {s} {gathered} {list} (inl nothing) (refused before new failure run is) = fails failure refl nothing (text-fails s gathered list failure (refused before new failure run is))
+text-ends (inr both) (refused before new failure run is) = absurd (cc)
 
 -- ---- where the run is empty
+
+empty-both : {A : Type 0} (xs ys : List A) → [] ≡ xs ++ ys → (xs ≡ []) × (ys ≡ [])
+empty-both [] ys is = (refl, sym is)
+empty-both (x ∷ xs) ys is = absurd (cc)
 
 none-passed : (macros : Macros) (ts done left : List (Hidden Place)) → ts ≡ [] → Passes place_alone macros ts done left → (done ≡ []) × (left ≡ [])
 none-passed macros ts done left is begins = (refl, is)
 none-passed macros ts done left is (goes_on u before run) = let none = none-passed macros ts _ _ is before in absurd (cc)
 
--- nothing of it was gathered, or put out
-pub text-empty : (s : State) (gathered list : List Token) → s.run ≡ [] → HasText s gathered list → (gathered ≡ []) × (list ≡ s.output)
-text-empty s gathered list none has =
-    let both = none-passed s.macros (map unhidden s.run) has.out (map unhidden gathered) (ap (map unhidden) none) has.passes in
-    (sym (shown gathered) ∙ ap (map token_of) both.1, has.put ∙ (ap (λ ts. s.output ++ map token_of ts) both.0 ∙ append-nil s.output))
+none-settles : (macros : Macros) (ts out left : List (Hidden Place)) → ts ≡ [] → Settles place_alone macros ts out left → (out ≡ []) × (left ≡ [])
+none-settles macros ts out left is (whole passes) = none-passed macros ts out [] is passes
+none-settles macros ts out left is (open_end u passes run) = let none = none-passed macros ts _ _ is passes in absurd (cc)
 
--- the macros may change then
-pub text-changed : (b : Bool) (s : State) (macros : Macros) (gathered list : List Token) → (b ≡ true → s.run ≡ []) → HasText s gathered list
-    → HasText (if b then record s { macros = macros } else s) gathered list
-text-changed true s macros gathered list none has =
-    let empty = text-empty s gathered list (none refl) has in
-    nothing-settled (record s { macros = macros }) gathered list (none refl ∙ sym empty.0) empty.1
-text-changed false s macros gathered list none has = has
+none-held : (macros : Macros) (ts : List (Hidden Place)) (failure : Failure Place) → ts ≡ [] → IsHeld place_alone macros ts failure → ⊥
+none-held macros ts failure is (held u passes run) = let none = none-passed macros ts _ _ is passes in cc
 
--- ---- the run's end
+-- nothing was gathered, put out or refused
+pub text-empty : (s : State) (gathered : List (Hidden Place)) (list : List Token) (faults : List (Failure Place)) → s.run ≡ [] → HasText s gathered list faults → (gathered ≡ []) × (list ≡ s.output) × (faults ≡ [])
+text-empty s gathered list _ none (settling before new out left run settles all is) =
+    let both = empty-both before new (sym none ∙ run) in
+    let nothing = none-settles s.macros (hidden before) out left (ap hidden both.0) settles in (
+      all ∙ (ap (λ hs. hs ++ hidden new) nothing.1 ∙ ap hidden both.1),
+      is ∙ (ap (λ ts. s.output ++ map token_of ts) nothing.0 ∙ append-nil s.output),
+      refl,
+    )
+text-empty s gathered list _ none (refused before new failure run is) =
+    absurd (none-held s.macros (hidden before) failure (ap hidden (empty-both before new (sym none ∙ run)).0) is)
 
--- these tokens before what a text becomes
-abbrev pub behind_these : List Token → Result (List Token) Fault → Result (List Token) Fault
-behind_these out (Ok ts) = Ok (out ++ ts)
-behind_these out (Err fault) = Err fault
+-- ---- settled once more
 
-answer-behind : (out : List (Hidden Place)) (r : Result (List (Hidden Place)) (Failure Place)) → behind_these (map token_of out) (text_of_answer r) ≡ text_of_answer (after_these out r)
-answer-behind out (Ok ts) = ap Ok (sym (map-append token_of out ts))
-answer-behind out (Err failure) = refl
+-- a name that waits does so at once
+waits-again : (macros : Macros) {front source done rest : List (Hidden Place)} {name : Hidden Place} {u : Uses Place} → Runs place_alone macros front source done (waits name rest) u
+    → (v : Uses Place) × Runs place_alone macros (name ∷ []) rest [] (waits name rest) v
+waits-again macros (stay is last run) = waits-again macros run
+waits-again macros (alone is) = (_, alone {front = []} is)
+waits-again macros (open_call is) = (_, open_call {front = []} is)
+waits-again macros (object d body is result run) = waits-again macros run
+waits-again macros (call d arguments close after left rest taken body results is leaves each result run) = waits-again macros run
 
-module _ (s : State) (gathered list : List Token) (has : HasText s gathered list) where
-  -- the whole run expands to what was put out and what the gathered tokens become
-  pub text-expands : (r : Result (List Token) Fault) → TextExpands s.macros gathered r → TextExpands s.macros s.run (behind_these (map token_of has.out) r)
-  text-expands r expands = record {
-    answer = after_these has.out expands.answer;
-    expands = passes-expand place_alone s.macros has.passes expands.answer expands.expands;
-    is = ap (behind_these (map token_of has.out)) expands.is ∙ answer-behind has.out expands.answer;
-  }
+-- what is left has settled
+settled-again : {ts done rest : List (Hidden Place)} (macros : Macros) → Settles place_alone macros ts done rest → Settles place_alone macros rest [] rest
+settled-again macros (whole passes) = whole begins
+settled-again macros (open_end u passes run) = let x = waits-again macros run in open_end x.0 begins x.1
 
-  -- which is put out
-  pub text-closes : (output now : List Token) → now ≡ list ++ output → HasText (put_out s (map token_of has.out ++ output)) [] now
-  text-closes output now is =
-      nothing-settled (put_out s (map token_of has.out ++ output)) [] now refl
-      (is ∙ (ap (λ ts. ts ++ output) has.put ∙ append_assoc s.output (map token_of has.out) output))
-
-  -- ---- a name of the gathered tokens is one of the run
-
-  module _ {names : List (List ℕ)} (within : IsWithin names s.macros) where
-    run-arrives : {left : List (Hidden Place)} → Arrives place_alone s.macros (map unhidden gathered) left → Arrives place_alone s.macros (map unhidden s.run) left
-    run-arrives arriving.begins = passes-arrives place_alone s.macros names within has.passes
-    run-arrives (arriving.goes_on more d answers) = arriving.goes_on (run-arrives more) d answers
-
-    pub text-name : {f : Spot × Used} → NameHas s.macros gathered f → NameHas s.macros s.run f
-    text-name name =
-        record { name = name.name; behind = name.behind; answer = name.answer; expands = name.expands; arrives = run-arrives name.arrives; replaces = name.replaces; is = name.is }
+-- and becomes this where nothing follows
+pub settled-expands : {ts done rest : List (Hidden Place)} (macros : Macros) → Settles place_alone macros ts done rest → Expands place_alone macros rest (closed rest)
+settled-expands {rest = rest} macros settles = subst (Expands place_alone macros rest) (nothing-before (closed rest)) (settles-closed place_alone macros (settled-again macros settles))
+  where
+    nothing-before : (r : Result (List (Hidden Place)) (Failure Place)) → after_these [] r ≡ r
+    nothing-before (Ok ts) = refl
+    nothing-before (Err failure) = refl

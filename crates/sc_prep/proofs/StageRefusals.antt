@@ -1,8 +1,8 @@
 -- A stage of the walk that refuses the configurations of its faults.
 use Rattle.std.proofs.Common.{◌≡◌, ℕ, ◌<◌, ◌&&◌, Bool, true, false, List, [], ◌∷◌, ◌++◌, All, map, length, Option, Some, None, append-nil, refl, sym, ap, subst, ◌∙◌, is_none, is_some}
 use Rattle.sc_base.specs.declared.fault.Fault as base
-use Rattle.sc_prep.proofs.CloseMoves.{list-grown, simulates-grown}
-use Rattle.sc_prep.proofs.Facts.{All-append, IsConfig-Keeps, IsTable-Keeps, faults_at-Keeps, faults_at-append, map-append}
+use Rattle.sc_prep.proofs.Grown.{held-later, simulates-later}
+use Rattle.sc_prep.proofs.Facts.{All-append, Extends-refl, IsConfig-Keeps, IsTable-Keeps, faults_at-Keeps, faults_at-append, map-append}
 use Rattle.sc_prep.proofs.Terms.{Extends, Fault, IsCond, IsConfig, IsHeldWalk, IsTable, Keeps, Machine, MacroTable, Owns, RefusesEach, Sets, Simulates, Stage, Walk, acts, any_token, faults_at, has_none, is_empty, macros_at, option_to_list, seen_fault}
 use Rattle.sc_prep.proofs.WalkMoves.{owns-kept, same-owns, simulates-kept}
 
@@ -64,7 +64,7 @@ module _ (files names more : List (List ℕ)) {old mid new : Sets} (keeps : Keep
 
     at_mid : Simulates mid more files turned_to c m
     at_mid =
-        let same = simulates-grown grows files w any_token (length files) c m (IsTable-Keeps keeps is) held (simulates-kept keeps w owns names files c m listed is simulates) in
+        let same = simulates-later grows (Extends-refl files) mid w c m (IsTable-Keeps keeps is) held (simulates-kept keeps w owns names files c m listed is simulates) in
         record {
           active = same.active;
           acting = same.acting;
@@ -110,7 +110,7 @@ module _ (files names more : List (List ℕ)) {old mid new : Sets} (keeps : Keep
         group = kept.group;
         acting = refuses.acting.own;
         sections = kept.sections;
-        gathered = kept.gathered;
+        runs = kept.runs;
         once = kept.once;
         prepared = record {
           list = kept.prepared.list;
@@ -135,13 +135,13 @@ module _ (files names more : List (List ℕ)) {old mid new : Sets} (keeps : Keep
         };
         text = record {
           held = subst (λ (v : Walk). IsHeldWalk more (length files) any_token v) (sym refuses.same) (record {
-            gathered = list-grown grows (length files) w.gathered held.gathered;
-            list = list-grown grows (length files) w.prepared.list held.list;
+            runs = (held-later grows (Extends-refl files) w held).runs;
+            list = (held-later grows (Extends-refl files) w held).list;
             passed = λ k d h. refl;
             faults = subst (All IsIn) (sym refuses.faults) (All-append IsIn w.prepared.faults.items faults held.faults placed);
             once = held.once;
           });
           list = ap (λ (v : Walk). v.prepared.list) refuses.same;
-          gathered = ap (λ (v : Walk). v.gathered) refuses.same;
+          runs = ap (λ (v : Walk). v.runs) refuses.same;
         };
       }

@@ -12,10 +12,10 @@ pub no-memory : {K V : Type 0} (s : Sets) (names files : List (List ℕ)) (w : W
     → stop ≡ OutOfMemory → StopsStage s names files w tokens comes limit stop
 no-memory s names files w tokens comes limit stop is = subst (StopsStage s names files w tokens comes limit) (sym is) (record { by = tt; at_place = λ apart. tt })
 
--- nothing is put out or gathered by the one stage and then by the other
+-- nothing is put out or read by the one stage and then by the other
 pub text-then : {more last : List (List ℕ)} {count : ℕ} (v w next : Walk) → KeepsText more count v w → IsHeldWalk last count any_token next
-    → next.prepared.list ≡ w.prepared.list → next.gathered ≡ w.gathered → KeepsText last count v next
-text-then v w next was held list gathered = record { held = held; list = list ∙ was.list; gathered = gathered ∙ was.gathered }
+    → next.prepared.list ≡ w.prepared.list → next.runs ≡ w.runs → KeepsText last count v next
+text-then v w next was held list runs = record { held = held; list = list ∙ was.list; runs = runs ∙ was.runs }
 
 -- a stop that is told by both
 pub stage-stops : {A K V : Type 0} (s : Sets) (names files : List (List ℕ)) (w : Walk) (tokens : List Token) (comes : List ℕ → Machine → K × V → Type 0) (limit : ℕ) (r : Result A Stop)

@@ -64,3 +64,9 @@ pub reading-stops-nowhere : {K V : Type 0} (arities : List ℕ) (P : List ℕ �
 reading-stops-nowhere arities P limit old new (BranchesFull count) is = absurd is
 reading-stops-nowhere arities P limit old new ReadFault is = tt
 reading-stops-nowhere arities P limit old new OutOfMemory is = tt
+
+-- and among whatever configurations
+pub reading-stops-none : {K V : Type 0} (is_listed : List ℕ → Type 0) (P : List ℕ → K × V → Type 0) (limit old new : ℕ) (stop : Stop) → ReadsNothing old new stop → StopsAmong is_listed P limit stop
+reading-stops-none is_listed P limit old new (BranchesFull count) nothing = absurd nothing
+reading-stops-none is_listed P limit old new ReadFault nothing = tt
+reading-stops-none is_listed P limit old new OutOfMemory nothing = tt

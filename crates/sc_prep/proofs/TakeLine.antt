@@ -12,7 +12,7 @@ memory-stops arities limit r memory = IfErr-weaker r (λ s. s ≡ OutOfMemory) (
 
 -- the tables hold the walk, and what was put out passes another test
 pub with-test : (names : List (List ℕ)) (files : ℕ) (test other : Token → Bool) (w : Walk) → IsHeldWalk names files test w → AllPass other w.prepared.list → IsHeldWalk names files other w
-with-test names files test other w held passed = record { gathered = held.gathered; list = held.list; passed = passed; faults = held.faults; once = held.once }
+with-test names files test other w held passed = record { runs = held.runs; list = held.list; passed = passed; faults = held.faults; once = held.once }
 
 -- what was put out stays plain
 pub stays-plain : (names : List (List ℕ)) (files : ℕ) (line : List Token) (w next : Walk) → StaysHeld names line w next → All (IsPlaced names files) line → IsHeldWalk names files any_token w

@@ -68,22 +68,23 @@ pub use Rattle.sc_model.specs.declared.standard.Standard.{Standard}
 pub use Rattle.sc_model.specs.declared.standard.Standard.TheVariants.{C11}
 pub use Rattle.sc_prep.specs.Alternatives.{EachToken, OwnsEach, alternative_tokens, branch_tokens}
 pub use Rattle.sc_prep.specs.Apart.{AreDifferent, GathersFrom, StandApart, tokens_in}
-pub use Rattle.sc_prep.specs.Closes.{IsPart, IsWithin, PutsOut, RefusesEach, has_none, is_empty}
+pub use Rattle.sc_prep.specs.Closes.{IsPart, IsWithin, RefusesEach, has_none, is_empty}
 pub use Rattle.sc_prep.specs.Contents.{Agrees, AreContents, AreHeldLines, AreLinesOf, IsContent, IsHeldContent, IsReading, KeepsContents, ReadsSame, content_at, end_of_file, end_place}
 pub use Rattle.sc_prep.specs.Entering.{Begins, Leaves}
 pub use Rattle.sc_prep.specs.Expressions.{DecidesAt, EvaluatesAt, ExpandsAt, ReplacesAt, deciding_done, deciding_fails, deciding_idle, evaluating_done, evaluating_fails, evaluating_idle, expanding_done, expanding_fails, expanding_idle, failed, replacing_done, replacing_fails, replacing_idle}
 pub use Rattle.sc_prep.specs.Finding.{AddsFile, AreFound, FindsAll, IsSearched, LooksUp, part_of}
 pub use Rattle.sc_prep.specs.Footprints.{Comes, ComesAt, ComesIn, ComesInside, ComesOver, HaveLists, StopsAmong, StopsAtPlace, StopsByLists, StopsWalk, any_machine, decides, does, here, later, past_all, within}
-pub use Rattle.sc_prep.specs.Gathered.{HasText}
+pub use Rattle.sc_prep.specs.Gathered.{HasText, held_at, hidden_at}
 pub use Rattle.sc_prep.specs.Includes.{ArePartsOf, EntersAt, Finds, enters, files_at}
 pub use Rattle.sc_prep.specs.Machine.{Answers, Carried, CarriesOut, Decided, Machine, RunExpands, Runs, SaysAt, Takes, acting, acting_unless, acts, arriving, asks_by, branched_as, carries, changed_by, changing, closes, closing_run, defined_as, defined_over, ended, ends_run, is_taken, name_test, next_branch, opened, opened_as, plain_by, plain_step, refusal, refusal_of, refusing, refusing_if, start, step, step_by, takes, turned}
 pub use Rattle.sc_prep.specs.Naming.{AddsHeader, AreHeaders, ArePlainNames, NamesAll, NamesAt, OwnsHeaders, fails, headers_in, idle, is_unnamed, named_in, names, unnamed_in, with_named}
 pub use Rattle.sc_prep.specs.Once.{AreOnceHeld, MarksFile, OwnsOnce, is_marked, once_at}
 pub use Rattle.sc_prep.specs.Passes.{EndsAt, PassesOver, StandFor, nothing, plain_line, whole_group, whole_section}
 pub use Rattle.sc_prep.specs.Preprocesses.{IsOrdinary, IsRefused, OwnsList, ReadsNothing, Stops, is_accepted}
-pub use Rattle.sc_prep.specs.Printable.{AllPass, AreHeld, ArePlaced, ArePlainPaths, CanBeShown, ClosesPlain, IsHeldWalk, IsPlaced, IsPlainOrNewline, IsPlainState, IsPlainToken, StaysHeld, any_token, is_plain}
-pub use Rattle.sc_prep.specs.Settles.{AreBare, HasLeft, HidesNone, IsEarly, PutsFirst, SettlesList, StaysAs, settles, stays}
-pub use Rattle.sc_prep.specs.Simulates.{Closed, Covers, IsAtTop, IsBegun, IsBetweenRuns, IsContext, IsIn, IsOutcomeOf, IsReady, Leads, Owns, OwnsSection, PlainEach, Simulates, SimulatesOneOf, SimulatesStep, StepsBetweenRuns, section_at}
+pub use Rattle.sc_prep.specs.Printable.{AllPass, AreHeld, ArePlaced, ArePlainPaths, CanBeShown, HoldsRuns, IsHeldWalk, IsPlaced, IsPlainOrNewline, IsPlainState, IsPlainToken, StaysHeld, any_token, is_plain}
+pub use Rattle.sc_prep.specs.Read.{EndsRead, TakesOut, last_run, run_at, tokens_read}
+pub use Rattle.sc_prep.specs.Settles.{EndsRuns, HasSettled, IsAsked, KeepsSettled, fault_items}
+pub use Rattle.sc_prep.specs.Simulates.{Closed, Covers, IsAtTop, IsBegun, IsBetweenRuns, IsContext, IsIn, IsOutcomeOf, IsReady, Leads, Owns, OwnsSection, OwnsRuns, PlainEach, RunAt, Simulates, SimulatesOneOf, SimulatesStep, StepsBetweenRuns, section_at}
 pub use Rattle.sc_prep.specs.Stages.{AskedHas, IsStored, KeepsText, LineStage, Stage, StopsSaid, StopsStage, is_asked}
 pub use Rattle.sc_prep.specs.declared.content.Content.{Content}
 pub use Rattle.sc_prep.specs.declared.content.Contents.{Contents}
@@ -94,8 +95,8 @@ pub use Rattle.sc_prep.specs.declared.finding.Found.{Found}
 pub use Rattle.sc_prep.specs.declared.including.Part.{Part}
 pub use Rattle.sc_prep.specs.declared.naming.Named.{Named}
 pub use Rattle.sc_prep.specs.declared.once.OnceFile.{OnceFile}
+pub use Rattle.sc_prep.specs.declared.open_runs.OpenRuns.{OpenRuns}
 pub use Rattle.sc_prep.specs.declared.prepared.Prepared.{Prepared}
-pub use Rattle.sc_prep.specs.declared.settling.Early.{Early}
 pub use Rattle.sc_prep.specs.declared.walk.Section.{Section}
 pub use Rattle.sc_prep.specs.declared.walk.Walk.{Walk}
 pub use Rattle.sc_space.specs.Seen.{seen_space}

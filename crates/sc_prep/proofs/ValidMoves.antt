@@ -1,5 +1,5 @@
 -- What the line of a space's text comes to at each configuration.
-use Rattle.std.proofs.Common.{◌≡◌, ℕ, zero, suc, ◌<◌, ◌&&◌, true, All, List, [], ◌∷◌, map, None, Ok, Err, refl, sym, ap, ◌∙◌, subst, arith, if◌then◌else◌}
+use Rattle.std.proofs.Common.{◌≡◌, ℕ, zero, suc, ◌&&◌, true, All, List, [], ◌∷◌, map, None, Ok, Err, refl, sym, ap, ◌∙◌, subst, arith, if◌then◌else◌}
 use Rattle.std.specs.List.{Contains}
 use Rattle.c11_directives.proofs.ListedLaws.{says-unique}
 use Rattle.c11_directives.specs.Listed.{IsRefusedBy, IsValidLine, SaysValid, decided}

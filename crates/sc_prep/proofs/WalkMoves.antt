@@ -2,12 +2,14 @@
 use Rattle.std.proofs.Common.{◌≡◌, ℕ, ◌&&◌, not, Bool, true, false, List, [], ◌∷◌, ◌++◌, map, reverse, Option, Some, None, Vec, Global, append-nil, refl, sym, ap, ◌∙◌, subst, All, is_none, if◌then◌else◌, ◌↔◌, cond, Ok, Err}
 use Rattle.c11_directives.specs.declared.directive.Directive.TheVariants as directive
 use Rattle.sc_base.specs.declared.fault.Fault as base
-use Rattle.sc_prep.proofs.Facts.{All-append, All-head, All-map, All-pop, All-push, All-tail, All-weaker, Denotes-Keeps, Denotes-self, IsConfig-Keeps, IsConfig-kept, IsTable-Keeps, and_parts, faults_at-Keeps, faults_at-append, items_at-Keeps, items_at-append, items_at-under, macros_at-Keeps, map-append, map-one, reverse-append, same_definition-false, same_definition-true, under}
+use Rattle.sc_prep.proofs.Facts.{All-append, All-head, All-map, All-pop, All-push, All-tail, All-weaker, Denotes-Keeps, Denotes-self, IsConfig-Keeps, IsConfig-kept, IsTable-Keeps, and_parts, faults_at-Keeps, faults_at-append, macros_at-Keeps, map-append, map-one, reverse-append, same_definition-false, same_definition-true, under}
 use Rattle.sc_prep.proofs.Machine.{inert_acting, inert_changing}
 use Rattle.sc_prep.proofs.OnceLemmas.{once-kept, once-stays}
 use Rattle.sc_prep.proofs.RunLemmas.{denotes-as, is_empty-one}
-use Rattle.sc_prep.proofs.SettledText.{text-as, text-changed, text-more}
-use Rattle.sc_prep.proofs.Terms.{BadDirective, Cause, Cond, Defined, Definition, Denotes, Directive, ErrorDirective, IsCond, IsConfig, IsNever, IsStill, IsTable, Keeps, Line, Machine, MacroTable, Macros, Owns, OwnsSection, ProtectedName, Redefined, RefusesEach, Section, Sets, Simulates, SimulatesStep, Standard, State, StepsBetweenRuns, Token, Walk, acting, acting_unless, acts, changed_by, changing, defined_as, defined_over, ended, ends_run, faults_at, has_none, is_once_file, is_protected, items_at, macros_at, next_branch, opened, option_to_list, plain_by, refusal, refusal_of, refusing, refusing_if, same_bytes, same_definition, section_at, seen, seen_fault, seen_line, turned, undefined, update, with_macro, with_text, without_macro}
+use Rattle.sc_prep.proofs.Terms.{BadDirective, Cause, Cond, Defined, Definition, Denotes, Directive, ErrorDirective, IsCond, IsConfig, IsNever, IsStill, IsTable, Keeps, Line, Machine, MacroTable, Macros, Owns, OwnsSection, ProtectedName, Redefined, RefusesEach, Section, Sets, Simulates, SimulatesStep, Standard, State, StepsBetweenRuns, Token, Walk, acting, acting_unless, acts, changed_by, changing, defined_as, defined_over, ended, ends_run, faults_at, has_none, is_once_file, is_protected, macros_at, next_branch, opened, option_to_list, plain_by, refusal, refusal_of, refusing, refusing_if, same_bytes, same_definition, section_at, seen_fault, seen_line, set_at, turned, undefined, update, with_macro, with_text, without_macro}
+use Rattle.sc_prep.proofs.Texts.{bare, owns-runs, run-changed, run-kept, run-more}
+use Rattle.sc_subst.specs.declared.hidden.Hidden.{Hidden}
+use Rattle.sc_subst.specs.declared.hidden.Hide.{Hide}
 use Rattle.sc_table.specs.Change.{IsOther}
 
 map-reverse : {A B : Type 0} (f : A → B) (xs : List A) → map f (reverse xs) ≡ reverse (map f xs)
@@ -30,7 +32,7 @@ module _ {old new : Sets} (keeps : Keeps old new) where
     group = keeps.own w.group.0 o.group;
     acting = keeps.own w.acting.0 o.acting;
     sections = All-weaker (OwnsSection old) (OwnsSection new) section-kept w.sections.items o.sections;
-    gathered = All-weaker (λ (item : Cond × Token). IsCond old item.0.0) (λ (item : Cond × Token). IsCond new item.0.0) (λ item own. keeps.own item.0.0 own) w.gathered o.gathered;
+    runs = owns-runs keeps o.runs;
     once = once-kept keeps w.once.items o.once;
     prepared = record {
       list = All-weaker (λ (item : Cond × Token). IsCond old item.0.0) (λ (item : Cond × Token). IsCond new item.0.0) (λ item own. keeps.own item.0.0 own) w.prepared.list o.prepared.list;
@@ -62,8 +64,7 @@ module _ {old new : Sets} (keeps : Keeps old new) where
       live = keeps.at w.prepared.live.0 config owns.prepared.live listed ∙ simulates.prepared.live;
       fault = ap (map (seen_fault files)) (faults_at-Keeps w.prepared.faults.items config keeps owns.prepared.faults listed) ∙ simulates.prepared.fault;
     };
-    text = λ none. text-as (ap (map (seen names files)) (items_at-Keeps w.gathered config keeps owns.gathered listed)) (ap (map (seen names files)) (items_at-Keeps w.prepared.list config keeps owns.prepared.list listed))
-        (simulates.text none);
+    text = λ none. run-kept keeps owns.runs owns.prepared.list listed (simulates.text none);
     macros = λ none name. macros_at-Keeps keeps is config name listed ∙ simulates.macros none name;
     once = λ none name. once-stays keeps files w.once.items config name listed owns.once ∙ simulates.once none name;
   }
@@ -83,7 +84,7 @@ begins names {old} {new} keeps w owns t group untaken acting sections items dg d
         group = dg.own;
         acting = dl.own;
         sections = subst (All (OwnsSection new)) (sym items) (All-push (OwnsSection new) w.sections.items (record { around = w.group; untaken = untaken }) kept.sections (record { around = kept.group; untaken = du.own }));
-        gathered = kept.gathered;
+        runs = kept.runs;
         once = kept.once;
         prepared = kept.prepared;
       };
@@ -130,7 +131,7 @@ module _ {old new : Sets} (keeps : Keeps old new) (w : Walk) (owns : Owns old w)
   turns names g group acting sections dg dl owned next becomes =
       let kept = owns-kept keeps w owns in
       record {
-        owns = record { group = dg.own; acting = dl.own; sections = owned; gathered = kept.gathered; once = kept.once; prepared = kept.prepared };
+        owns = record { group = dg.own; acting = dl.own; sections = owned; runs = kept.runs; once = kept.once; prepared = kept.prepared };
         table = IsTable-Keeps keeps;
         at = λ files config m listed is simulates.
             let same = simulates-kept keeps w owns names files config m listed is simulates in
@@ -240,7 +241,7 @@ refuses standard names {old} {new} keeps w owns part t cause token tokens next d
         group = kept.group;
         acting = da.own;
         sections = kept.sections;
-        gathered = kept.gathered;
+        runs = kept.runs;
         once = kept.once;
         prepared = record {
           list = kept.prepared.list;
@@ -289,11 +290,7 @@ refuses-none standard names s w owns part t cause dp never line = record {
       subst (Simulates s names files w config) (sym (refusing_none (t config) m (seen_line standard names files line) cause inactive)) simulates;
 }
 
--- ---- tokens are gathered
-
-chosen_end : {A B : Type 0} (f : A → B) (b : Bool) (xs ys : List A) → map f (xs ++ (if b then ys else [])) ≡ (if b then map f xs ++ map f ys else map f xs)
-chosen_end f true xs ys = map-append f xs ys
-chosen_end f false xs ys = ap (map f) (append-nil xs)
+-- ---- a line is read
 
 text_macros : (b : Bool) (s : State) (l : Line) → (if b then with_text s l else s).macros ≡ s.macros
 text_macros true s l = refl
@@ -303,16 +300,27 @@ text_once : (b : Bool) (s : State) (l : Line) (name : List ℕ) → is_once_file
 text_once true s l name = refl
 text_once false s l name = refl
 
-pub puts : (standard : Standard) (names : List (List ℕ)) (s : Sets) (w : Walk) (owns : Owns s w) (tokens : List Token) (list : List (Cond × Token)) → list ≡ w.gathered ++ under w.acting tokens
-    → SimulatesStep names s w s (record w { gathered = list }) (λ files config m. acting m (λ state. with_text state (seen_line standard names files tokens)))
-puts standard names s w owns tokens list items =
-    let IsOwn : Cond × Token → Type 0 = λ item. IsCond s item.0.0 in
+-- the walk behind a line that the configurations read that act
+abbrev pub read-walk : Walk → Hide → List Token → Walk
+read-walk w hide tokens = record w {
+  runs = record w.runs { gathered = w.runs.gathered ++ under w.acting (map (bare hide) tokens); read = w.runs.read ++ under w.acting (map Some tokens) };
+}
+
+pub puts : (standard : Standard) (names : List (List ℕ)) (s : Sets) (w : Walk) (owns : Owns s w) (hide : Hide) → set_at w.runs.sets hide.0 ≡ [] → (tokens : List Token)
+    → SimulatesStep names s w s (read-walk w hide tokens) (λ files config m. acting m (λ state. with_text state (seen_line standard names files tokens)))
+puts standard names s w owns hide unhidden tokens =
+    let H : Cond × Hidden → Type 0 = λ item. IsCond s item.0.0 in
+    let R : Cond × Option Token → Type 0 = λ item. IsCond s item.0.0 in
     record {
       owns = record {
         group = owns.group;
         acting = owns.acting;
         sections = owns.sections;
-        gathered = subst (All IsOwn) (sym items) (All-append IsOwn w.gathered (under w.acting tokens) owns.gathered (All-map IsOwn (λ t. (w.acting, t)) tokens (λ k d h. owns.acting)));
+        runs = record {
+          gathered = All-append H w.runs.gathered (under w.acting (map (bare hide) tokens)) owns.runs.gathered (All-map H (λ t. (w.acting, t)) (map (bare hide) tokens) (λ k d h. owns.acting));
+          held = owns.runs.held;
+          read = All-append R w.runs.read (under w.acting (map Some tokens)) owns.runs.read (All-map R (λ t. (w.acting, t)) (map Some tokens) (λ k d h. owns.acting));
+        };
         once = owns.once;
         prepared = owns.prepared;
       };
@@ -322,17 +330,13 @@ puts standard names s w owns tokens list items =
         acting = simulates.acting;
         sections = simulates.sections;
         prepared = record { live = simulates.prepared.live; fault = simulates.prepared.fault };
-        text = λ none. text-as
-            (ap (λ xs. map (seen names files) (items_at s xs config)) items
-            ∙ (ap (map (seen names files)) (items_at-append s w.gathered (under w.acting tokens) config ∙ ap (λ xs. items_at s w.gathered config ++ xs) (items_at-under s w.acting tokens config ∙ ap (λ b. if b then tokens else []) simulates.acting))
-            ∙ chosen_end (seen names files) (acts m) (items_at s w.gathered config) tokens)) refl
-            (text-more (acts m) m.state (seen_line standard names files tokens) (map (seen names files) (items_at s w.gathered config)) (map (seen names files) (items_at s w.prepared.list config)) (simulates.text none));
+        text = λ none. run-more s names files w.runs hide unhidden w.prepared.list config m.state (seen_line standard names files tokens) w.acting tokens refl (acts m) simulates.acting (simulates.text none);
         macros = λ none name. simulates.macros none name ∙ sym (ap (λ f. f name) (text_macros (acts m) m.state (seen_line standard names files tokens)));
         once = λ none name. simulates.once none name ∙ text_once (acts m) m.state (seen_line standard names files tokens) name;
       };
     }
 
--- where no configuration takes the line, nothing is gathered
+-- where no configuration takes the line, nothing is read
 pub puts-none : (standard : Standard) (names : List (List ℕ)) (s : Sets) (w : Walk) → Owns s w → IsNever s w.acting.0 → (line : List Token)
     → SimulatesStep names s w s w (λ files config m. acting m (λ state. with_text state (seen_line standard names files line)))
 puts-none standard names s w owns never line = record {
@@ -385,7 +389,7 @@ pub changes-macros : (names : List (List ℕ)) {old new : Sets} (keeps : Keeps o
 changes-macros names {old} {new} keeps w owns table t becomes is_table changed =
     let kept = owns-kept keeps w owns in
     record {
-      owns = record { group = kept.group; acting = kept.acting; sections = kept.sections; gathered = kept.gathered; once = kept.once; prepared = kept.prepared };
+      owns = record { group = kept.group; acting = kept.acting; sections = kept.sections; runs = kept.runs; once = kept.once; prepared = kept.prepared };
       table = λ _. is_table;
       at = λ files config m listed is simulates between.
           let same = simulates-kept keeps w owns names files config m listed is simulates in
@@ -395,8 +399,7 @@ changes-macros names {old} {new} keeps w owns table t becomes is_table changed =
             acting = same.acting;
             sections = same.sections;
             prepared = record { live = same.prepared.live; fault = same.prepared.fault };
-            text = λ none. text-changed (not (t config) && acts m) m.state next (map (seen names files) (items_at new w.gathered config)) (map (seen names files) (items_at new w.prepared.list config))
-                (λ on. between (and_parts (not (t config)) (acts m) on).1) (same.text none);
+            text = λ none. run-changed (not (t config) && acts m) m.state next (λ on. between (and_parts (not (t config)) (acts m) on).1) (same.text none);
             macros = λ none name. changed config listed m.state.macros (simulates.macros none) name
                 ∙ (ap (λ b. if not (t config) && b then next name else m.state.macros name) simulates.acting ∙ changed_macros (not (t config) && acts m) m.state next name);
             once = λ none name. same.once none name ∙ changed_once (not (t config) && acts m) m.state next name;
@@ -405,7 +408,7 @@ changes-macros names {old} {new} keeps w owns table t becomes is_table changed =
 
 -- the walk with another table
 pub same-owns : {old new : Sets} (keeps : Keeps old new) (w : Walk) (owns : Owns old w) (table : MacroTable) → Owns new (record w { table = table })
-same-owns keeps w owns table = let kept = owns-kept keeps w owns in record { group = kept.group; acting = kept.acting; sections = kept.sections; gathered = kept.gathered; once = kept.once; prepared = kept.prepared }
+same-owns keeps w owns table = let kept = owns-kept keeps w owns in record { group = kept.group; acting = kept.acting; sections = kept.sections; runs = kept.runs; once = kept.once; prepared = kept.prepared }
 
 -- the table says what it said
 pub same-macros : (names : List (List ℕ)) {old new : Sets} (keeps : Keeps old new) (w : Walk) (owns : Owns old w) (table : MacroTable) → IsTable new names table → IsStill old new names w.table table
@@ -413,7 +416,7 @@ pub same-macros : (names : List (List ℕ)) {old new : Sets} (keeps : Keeps old 
 same-macros names {old} {new} keeps w owns table is_table still =
     let kept = owns-kept keeps w owns in
     record {
-      owns = record { group = kept.group; acting = kept.acting; sections = kept.sections; gathered = kept.gathered; once = kept.once; prepared = kept.prepared };
+      owns = record { group = kept.group; acting = kept.acting; sections = kept.sections; runs = kept.runs; once = kept.once; prepared = kept.prepared };
       table = λ _. is_table;
       at = λ files config m listed is simulates.
           let same = simulates-kept keeps w owns names files config m listed is simulates in

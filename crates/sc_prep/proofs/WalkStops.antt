@@ -13,7 +13,7 @@ use Rattle.sc_prep.proofs.IncludeLeads.{Spelled, files-next}
 use Rattle.sc_prep.proofs.LineSteps.{line-of_file, lines-all, lines-long}
 use Rattle.sc_prep.proofs.PlainRuns.{in-more}
 use Rattle.sc_prep.proofs.Stopping.{answer-stops, here_at, included_at, moments-as}
-use Rattle.sc_prep.proofs.Terms.{AreContents, AreHeldLines, Comes, ComesAt, ComesInside, ComesOver, Contents, Context, Entry, FileId, FileLines, Files, GathersFrom, IsAtTop, IsBetweenRuns, IsContext, IsIn, IsPlaced, Line, MomentsHave, NameHas, Part, Runs, Sets, SourceFootprint, Space, StandApart, Standard, Stop, StopsAtPlace, StopsWalk, Walk, acts, any_machine, at_end, files_at, flat_map, hash_of, is_newline, of_last_run, onto_first, past_all, seen_line, seen_lines, text_at, token_lines, tokens_in, tokens_of}
+use Rattle.sc_prep.proofs.Terms.{AreContents, AreHeldLines, Comes, ComesAt, ComesInside, ComesOver, Contents, Context, Entry, FileId, FileLines, Files, GathersFrom, IsAtTop, IsBetweenRuns, IsContext, IsIn, IsPlaced, Line, MomentsHave, NameHas, Part, Runs, Sets, SourceFootprint, Space, StandApart, Standard, Stop, StopsAtPlace, StopsWalk, Walk, acts, any_machine, at_end, files_at, flat_map, hash_of, is_newline, of_last_run, onto_first, past_all, seen_line, seen_lines, text_at, token_lines, tokens_read, tokens_of}
 
 -- ---- the tokens of a file that are still to come
 
@@ -58,25 +58,25 @@ module _ {A : Type 0} (f : A → List base.Token) (gs : List base.Token) where
 
 module _ {standard : Standard} {names : List (List ℕ)} {files : ℕ} (entry : Entry) (lines : FileLines) (own : AreHeldLines standard names files entry.file lines) where
   -- nothing was gathered yet
-  pub apart-first : (walk : Walk) → walk.gathered ≡ [] → StandApart lines.tokens.items → StandApart (tokens_in walk.gathered ++ to_come lines 0)
+  pub apart-first : (walk : Walk) → walk.runs.read ≡ [] → StandApart lines.tokens.items → StandApart (tokens_read walk.runs.read ++ to_come lines 0)
   apart-first walk none apart =
-      subst (λ list. StandApart (tokens_in list ++ to_come lines 0)) (sym none)
+      subst (λ read. StandApart (tokens_read read ++ to_come lines 0)) (sym none)
       (subst StandApart (ap (flat_map (λ line. line)) (sym own.lines_are.tokens_are) ∙ joined-map (tokens_of lines.tokens.items) lines.lines.items) (joined-apart [] lines.tokens.items apart))
 
   module _ (number : ℕ) (d : declared.Line) (below : number < length lines.lines.items) (spoken : List base.Token) (same : spoken ≡ tokens_of lines.tokens.items (get_or lines.lines.items number d))
-      (walk : Walk) (apart : StandApart (tokens_in walk.gathered ++ to_come lines number)) where
-    with-line : StandApart (tokens_in walk.gathered ++ (spoken ++ to_come lines (number + 1)))
+      (walk : Walk) (apart : StandApart (tokens_read walk.runs.read ++ to_come lines number)) where
+    with-line : StandApart (tokens_read walk.runs.read ++ (spoken ++ to_come lines (number + 1)))
     with-line =
-        subst (λ line. StandApart (tokens_in walk.gathered ++ (line ++ to_come lines (number + 1)))) (sym same)
-        (first-apart (tokens_of lines.tokens.items) (tokens_in walk.gathered) lines.lines.items number d below apart)
+        subst (λ line. StandApart (tokens_read walk.runs.read ++ (line ++ to_come lines (number + 1)))) (sym same)
+        (first-apart (tokens_of lines.tokens.items) (tokens_read walk.runs.read) lines.lines.items number d below apart)
 
-    pub apart-line : StandApart (tokens_in walk.gathered ++ spoken)
-    apart-line = apart-left (tokens_in walk.gathered ++ spoken) (to_come lines (number + 1)) (subst StandApart (sym (append_assoc (tokens_in walk.gathered) spoken _)) with-line)
+    pub apart-line : StandApart (tokens_read walk.runs.read ++ spoken)
+    apart-line = apart-left (tokens_read walk.runs.read ++ spoken) (to_come lines (number + 1)) (subst StandApart (sym (append_assoc (tokens_read walk.runs.read) spoken _)) with-line)
 
     -- behind the line, and those that are passed over
-    pub apart-next : (next : Walk) (following : ℕ) → number < following → GathersFrom spoken walk next → StandApart (tokens_in next.gathered ++ to_come lines following)
+    pub apart-next : (next : Walk) (following : ℕ) → number < following → GathersFrom spoken walk next → StandApart (tokens_read next.runs.read ++ to_come lines following)
     apart-next next following after gathers =
-        fewer-apart (tokens_of lines.tokens.items) (tokens_in next.gathered) lines.lines.items (number + 1) following (omega (arith, after)) (gathers (to_come lines (number + 1)) with-line)
+        fewer-apart (tokens_of lines.tokens.items) (tokens_read next.runs.read) lines.lines.items (number + 1) following (omega (arith, after)) (gathers (to_come lines (number + 1)) with-line)
 
 -- ---- the lines of a file
 

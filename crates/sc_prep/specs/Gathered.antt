@@ -1,14 +1,32 @@
--- The text of a run of which a part was put out before the run's end.
-use Rattle.std.specs.Prelude.{◌≡◌, List, ◌++◌, map}
+-- The text of a run of which a first part has settled: what waits of it is gathered with the names
+-- that it hides, or a fault holds it.
+use Rattle.std.specs.Prelude.{◌≡◌, ℕ, List, [], ◌∷◌, ◌++◌, map}
 use Rattle.c11_directives.specs.Pre.{State}
-use Rattle.c11_macros.specs.Hidden.{Hidden}
-use Rattle.c11_macros.specs.Runs.{Passes}
+use Rattle.c11_macros.specs.Hidden.{Failure, Hidden}
+use Rattle.c11_macros.specs.Runs.{IsHeld, Settles}
 use Rattle.c11_macros.specs.Text.{place_alone, token_of, unhidden}
+use Rattle.sc_base.specs.declared.fault.Fault as base
+use Rattle.sc_base.specs.declared.id.Cond.{Cond}
+use Rattle.sc_base.specs.declared.id.Name.{Name}
+use Rattle.sc_base.specs.Seen.{seen_place}
+use Rattle.sc_expand.specs.Moved.{moved, moved_failure}
+use Rattle.sc_expand.specs.Seen.{failures_at, seen_at, stores}
+use Rattle.sc_model.specs.Sets.{Sets}
 use Rattle.sc_model.specs.Token.{Place, Token}
+use Rattle.sc_subst.specs.declared.hidden.Hidden as base_hidden
 
--- First names of the run, one after the other, became these tokens, which were put out behind the
--- output. What is left of it is gathered.
-pub record HasText (s : State) (gathered list : List Token) : Type 0 where
-  pub out : List (Hidden Place)
-  pub passes : Passes place_alone s.macros (map unhidden s.run) out (map unhidden gathered)
-  pub put : list ≡ s.output ++ map token_of out
+-- What a first part of the run became stands behind the output, and what is left of that is
+-- gathered before the rest of the run. What one has gathered that is refused, whatever follows,
+-- doesn't count.
+pub data HasText (s : State) (gathered : List (Hidden Place)) (list : List Token) : List (Failure Place) → Type 0 where
+  settling : (before new : List Token) (out left : List (Hidden Place)) → s.run ≡ before ++ new → Settles place_alone s.macros (map unhidden before) out left
+      → gathered ≡ left ++ map unhidden new → list ≡ s.output ++ map token_of out → HasText s gathered list []
+  refused : (before new : List Token) (failure : Failure Place) → s.run ≡ before ++ new → IsHeld place_alone s.macros (map unhidden before) failure
+      → HasText s gathered list (failure ∷ [])
+
+-- what a configuration has of a list of tokens that hide names, and of faults
+abbrev pub hidden_at : Sets → (names files : List (List ℕ)) → List (List Name) → List (Cond × base_hidden.Hidden) → List ℕ → List (Hidden Place)
+hidden_at s names files hides list c = map (moved (seen_place files)) (seen_at (stores s names hides) list c)
+
+abbrev pub held_at : Sets → (files : List (List ℕ)) → List base.Fault → List ℕ → List (Failure Place)
+held_at s files faults c = map (moved_failure (seen_place files)) (failures_at s faults c)

@@ -14,6 +14,7 @@ pub mod Once
 pub mod Passes
 pub mod Preprocesses
 pub mod Printable
+pub mod Read
 pub mod Settles
 pub mod Simulates
 pub mod Stages

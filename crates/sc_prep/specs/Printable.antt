@@ -1,24 +1,25 @@
 -- What can be printed of a file.
-use Rattle.std.specs.Prelude.{◌≡◌, ℕ, ◌<◌, ◌||◌, Bool, true, List, All, Ok, map}
+use Rattle.std.specs.Prelude.{◌≡◌, ℕ, ◌<◌, ◌||◌, Bool, true, List, All}
 use Rattle.std.specs.List.{AllByRecursion}
 use Rattle.c11_directives.specs.Pre.{State}
-use Rattle.c11_macros.specs.Text.{TextExpands}
 use Rattle.c11_tokens.specs.Lex.{is_newline}
 use Rattle.sc_base.specs.declared.fault.Fault as base
 use Rattle.sc_base.specs.declared.id.Cond.{Cond}
 use Rattle.sc_base.specs.declared.token.Token.{Token}
-use Rattle.sc_base.specs.Seen.{IsHeld, seen, text_at}
+use Rattle.sc_base.specs.Seen.{IsHeld, text_at}
 use Rattle.sc_expand.specs.OneLine.{AreOneLine}
-use Rattle.sc_guarded.specs.Items.{items_at}
 use Rattle.sc_guarded.specs.Printable.{IsShowable, IsShowableFault, AreApart}
 use Rattle.sc_model.specs.Bytes.{has_no_newline}
-use Rattle.sc_model.specs.Sets.{Sets, IsConfig}
+use Rattle.sc_model.specs.Sets.{Sets}
 use Rattle.sc_model.specs.Token as model
 use Rattle.sc_prep.specs.declared.once.OnceFile.{OnceFile}
+use Rattle.sc_prep.specs.declared.open_runs.OpenRuns.{OpenRuns}
 use Rattle.sc_prep.specs.declared.prepared.Prepared.{Prepared}
 use Rattle.sc_prep.specs.Once.{AreOnceHeld}
+use Rattle.sc_prep.specs.Read.{tokens_read}
 use Rattle.sc_prep.specs.declared.walk.Walk.{Walk}
-use Rattle.sc_table.specs.Table.{macros_at}
+use Rattle.sc_subst.specs.declared.hidden.Hidden.{Hidden}
+use Rattle.sc_subst.specs.Seen.{IsHeldHidden}
 
 -- the tables hold the token's texts and its file, of which there are so many
 pub record IsPlaced (names : List (List ℕ)) (files : ℕ) (t : Token) : Type 0 where
@@ -40,10 +41,16 @@ AllPass test list = All (λ item. test item.1 ≡ true) list
 abbrev pub ArePlaced : List (List ℕ) → ℕ → List (Cond × Token) → Type 0
 ArePlaced names files list = All (λ item. IsPlaced names files item.1) list
 
--- the tables hold what was gathered and prepared and the files that are entered no more, and the
--- tokens that were put out pass the test
-pub record AreHeld (names : List (List ℕ)) (files : ℕ) (test : Token → Bool) (text : List (Cond × Token)) (marked : List OnceFile) (p : Prepared) : Type 0 where
-  pub gathered : ArePlaced names files text
+-- the tables hold what was read, gathered and held
+pub record HoldsRuns (names : List (List ℕ)) (files : ℕ) (runs : OpenRuns) : Type 0 where
+  pub gathered : All (λ (item : Cond × Hidden). IsHeldHidden names runs.sets item.1 × (item.1.token.place.file.0 < files)) runs.gathered
+  pub held : All (λ (f : base.Fault). f.place.file.0 < files) runs.held.items
+  pub read : All (IsPlaced names files) (tokens_read runs.read)
+
+-- the tables hold what is open and prepared and the files that are entered no more, and the tokens
+-- that were put out pass the test
+pub record AreHeld (names : List (List ℕ)) (files : ℕ) (test : Token → Bool) (unended : OpenRuns) (marked : List OnceFile) (p : Prepared) : Type 0 where
+  pub runs : HoldsRuns names files unended
   pub list : ArePlaced names files p.list
   pub passed : AllPass test p.list
   pub faults : All (λ (f : base.Fault). f.place.file.0 < files) p.faults.items
@@ -54,18 +61,12 @@ any_token t = true
 
 -- the tables hold what is kept of the walk
 abbrev pub IsHeldWalk : List (List ℕ) → ℕ → (Token → Bool) → Walk → Type 0
-IsHeldWalk names files test w = AreHeld names files test w.gathered w.once.items w.prepared
+IsHeldWalk names files test w = AreHeld names files test w.runs w.once.items w.prepared
 
--- from one walk to the next only tokens of the line are gathered, and none is put out
+-- from one walk to the next only tokens of the line are read, and none is put out
 abbrev pub StaysHeld : List (List ℕ) → List Token → Walk → Walk → Type 0
 StaysHeld names line old new = (files : ℕ) (test : Token → Bool) → All (IsPlaced names files) line
     → IsHeldWalk names files test old → IsHeldWalk names files test new
-
--- what the text expands to that was gathered has each token spelled on one line
-abbrev pub ClosesPlain : Sets → List (List ℕ) → List (List ℕ) → Walk → Type 0
-ClosesPlain s names files w = (config : List ℕ) → IsConfig s.arities config → s.has w.prepared.live.0 config ≡ true
-    → (output : List model.Token) → TextExpands (macros_at s names w.table config) (map (seen names files) (items_at s w.gathered config)) (Ok output)
-    → All (λ t. has_no_newline t.spelling ≡ true) output
 
 -- the names of files are on one line
 abbrev pub ArePlainPaths : List (List ℕ) → Type 0

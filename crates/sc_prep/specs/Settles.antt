@@ -1,75 +1,73 @@
--- What is put out of runs that have not come to their ends.
-use Rattle.std.specs.Prelude.{◌≡◌, ℕ, ◌≤◌, ◌&&◌, ◌++◌, Bool, true, false, List, [], ◌∷◌, All, length, map, take, if◌then◌else◌}
-use Rattle.c11_macros.specs.Hidden as model
-use Rattle.c11_macros.specs.Macros.{Macros}
-use Rattle.c11_macros.specs.Runs.{Settles}
-use Rattle.c11_macros.specs.Text.{place_alone, token_of, unhidden}
+-- What settling a list leaves of it, and what ends runs that have settled.
+use Rattle.std.specs.Prelude.{◌≡◌, ◌⊎◌, ℕ, ◌&&◌, ◌++◌, not, true, List, [], map}
+use Rattle.c11_macros.specs.Expansion.{Expands}
+use Rattle.c11_macros.specs.Hidden.{Failure}
+use Rattle.c11_macros.specs.Text.{place_alone}
+use Rattle.sc_base.specs.declared.fault.Fault.{Fault}
 use Rattle.sc_base.specs.declared.id.Cond.{Cond}
-use Rattle.sc_base.specs.declared.id.Name.{Name}
+use Rattle.sc_base.specs.declared.place.Place.{Place}
 use Rattle.sc_base.specs.declared.token.Token.{Token}
-use Rattle.sc_base.specs.Seen.{seen}
+use Rattle.sc_expand.specs.Closing.{IsClosed}
+use Rattle.sc_expand.specs.Open.{closed}
+use Rattle.sc_expand.specs.Seen.{seen_failure}
 use Rattle.sc_expand.specs.declared.settling.Settled.{Settled}
-use Rattle.sc_guarded.specs.Items.{items_at}
-use Rattle.sc_model.specs.Sets.{Sets, IsCond, IsConfig, IsNever}
-use Rattle.sc_model.specs.Token.{Place}
-use Rattle.sc_prep.specs.Closes.{IsPart, IsWithin, has_none}
-use Rattle.sc_prep.specs.declared.settling.Early.{Early}
-use Rattle.sc_prep.specs.declared.settling.Left.{Left}
-use Rattle.sc_prep.specs.Printable.{ArePlaced}
+use Rattle.sc_guarded.specs.declared.expanded.Expanded.{Expanded}
+use Rattle.sc_model.specs.Sets.{Sets, Denotes, IsCond, IsConfig, Keeps}
+use Rattle.sc_prep.specs.Closes.{IsWithin, has_none}
+use Rattle.sc_prep.specs.Gathered.{held_at, hidden_at}
+use Rattle.sc_prep.specs.Read.{EndsRead}
+use Rattle.sc_prep.specs.declared.walk.Walk.{Walk}
 use Rattle.sc_subst.specs.declared.hidden.Hidden.{Hidden}
-use Rattle.sc_subst.specs.Hides.{set_at}
+use Rattle.sc_table.specs.Table.{macros_at}
 
--- Tokens of the text are put out, whatever follows it, and others are left of it; or it stays as it
--- is.
-pub data PutsFirst (macros : Macros) (files names : List (List ℕ)) (text : List Token) (more : List (List ℕ)) (done left : List Token) : Type 0 where
-  stays : done ≡ [] → left ≡ text → PutsFirst macros files names text more done left
-  settles : (out : List (model.Hidden Place)) → Settles place_alone macros (map unhidden (map (seen names files) text)) out (map unhidden (map (seen more files) left))
-      → map (seen more files) done ≡ map token_of out → PutsFirst macros files names text more done left
+-- configurations without a fault, those of the first condition, that are asked for, as all that act
+pub record IsAsked (s : Sets) (walk : Walk) (free asked : ℕ) : Type 0 where
+  pub live : Denotes s free (λ c. s.has walk.prepared.live.0 c && has_none s walk.runs.held.items c)
+  pub own : IsCond s asked
+  pub within : (c : List ℕ) → IsConfig s.arities c → s.has asked c ≡ true → s.has free c ≡ true
+  pub acting : (c : List ℕ) → IsConfig s.arities c → s.has free c ≡ true → s.has walk.acting.0 c ≡ true → s.has asked c ≡ true
 
--- What is put out of a list, and left of it, in the configurations of a condition.
-pub record SettlesList (files names : List (List ℕ)) (old : Sets) (macros : List ℕ → Macros) (list : List (Cond × Token)) (live : ℕ)
-    (more : List (List ℕ)) (new : Sets) (early : Early) : Type 0 where
-  pub own : All (λ item. IsCond new item.0.0) early.put
-  pub some : All (λ item. IsNever new item.0.0 → ⊥) early.put
-  pub placed : ArePlaced more (length files) early.put
-  pub part : IsPart list new early.left
-  pub others : (c : List ℕ) → IsConfig old.arities c → old.has live c ≡ false → items_at new early.put c ≡ []
-  pub at : (c : List ℕ) → IsConfig old.arities c → old.has live c ≡ true
-      → PutsFirst (macros c) files names (items_at old list c) more (items_at new early.put c) (items_at new early.left c)
+-- What a list of the configurations that are asked for settled to is put out, waits and holds them.
+-- The others without a fault keep what they have gathered.
+pub record KeepsSettled (old : Sets) (walk : Walk) (live asked : ℕ) (settled : Settled) (new : Sets) (next : Walk) : Type 0 where
+  pub same : next ≡ record walk { runs = record walk.runs { gathered = next.runs.gathered; held = next.runs.held }; prepared = record walk.prepared { list = next.prepared.list } }
+  pub done : List (Cond × Token)
+  pub left : List (Cond × Hidden)
+  pub list : next.prepared.list ≡ walk.prepared.list ++ done
+  pub gathered : next.runs.gathered ≡ settled.rest ++ left
+  pub held : next.runs.held.items ≡ walk.runs.held.items ++ settled.held.items
+  pub puts : IsWithin old settled.done (λ c. old.has asked c && has_none old settled.held.items c) new done
+  pub stays : IsWithin old walk.runs.gathered (λ c. old.has live c && not (old.has asked c)) new left
 
--- ---- what a configuration has of what settled
+-- faults as items of a list
+abbrev pub fault_items : List Fault → List (Cond × Failure Place)
+fault_items faults = map (λ fault. (fault.cond, seen_failure fault)) faults
 
-abbrev pub HidesNone : List (List Name) → Hidden → Type 0
-HidesNone hides h = set_at hides h.hide.0 ≡ []
+-- The runs of the configurations that act end: what waits there is closed, and what holds them is
+-- their fault. What is gathered, and held, stays for the others.
+pub record EndsRuns (old : Sets) (walk : Walk) (new : Sets) (next : Walk) : Type 0 where
+  pub middle : Sets
+  pub until : Keeps old middle
+  pub later : Keeps middle new
+  pub e : Expanded
+  pub closed : IsClosed old middle walk.runs.gathered walk.acting.0 e
+  pub ended : List Fault
+  pub ends : IsWithin old (fault_items walk.runs.held.items) (old.has walk.acting.0) middle (fault_items ended)
+  pub same : next ≡ record walk {
+    acting = next.acting;
+    runs = record walk.runs { gathered = next.runs.gathered; held = next.runs.held; read = next.runs.read };
+    prepared = record walk.prepared { list = walk.prepared.list ++ e.list; faults = next.prepared.faults; live = next.prepared.live };
+  }
+  pub gathered : IsWithin old walk.runs.gathered (λ c. not (old.has walk.acting.0 c)) new next.runs.gathered
+  pub held : IsWithin old (fault_items walk.runs.held.items) (λ c. not (old.has walk.acting.0 c)) new (fault_items next.runs.held.items)
+  pub read : EndsRead old walk.runs.read walk.acting.0 walk.prepared.live.0 new next.runs.read
+  pub faults : next.prepared.faults.items ≡ walk.prepared.faults.items ++ (e.faults.items ++ ended)
+  pub live : Denotes new next.prepared.live.0 (λ c. old.has walk.prepared.live.0 c && has_none middle (e.faults.items ++ ended) c)
+  pub acting : Denotes new next.acting.0 (λ c. old.has walk.acting.0 c && has_none middle (e.faults.items ++ ended) c)
 
--- these are the tokens of some that hide no name
-pub record AreBare (hides : List (List Name)) (rest : List Hidden) (tokens : List Token) : Type 0 where
-  pub none : All (HidesNone hides) rest
-  pub are : tokens ≡ map (λ h. h.token) rest
-
--- Of the configurations of a condition those of which only tokens wait that hide no name, and these
--- tokens.
-pub record HasLeft (old : Sets) (hides : List (List Name)) (rest : List (Cond × Hidden)) (all : ℕ) (new : Sets) (left : Left) : Type 0 where
-  pub free_own : IsCond new left.free.0
-  pub own : All (λ item. IsCond new item.0.0) left.tokens
-  pub among : (c : List ℕ) → IsConfig old.arities c → new.has left.free.0 c ≡ true → old.has all c ≡ true
-  pub at : (c : List ℕ) → IsConfig old.arities c → new.has left.free.0 c ≡ true → AreBare hides (items_at old rest c) (items_at new left.tokens c)
-
--- The condition under which an item stays, and how many of those that are left were found then: the
--- item is the next of these, or none of them.
-pub record StaysAs (old : Sets) (stays others : ℕ) (token : Token) (left : List (Cond × Token)) (found : ℕ) (new : Sets) (cond next : ℕ) : Type 0 where
-  pub own : IsCond new cond
-  pub within : next ≤ length left
-  pub whole : (c : List ℕ) → IsConfig old.arities c → old.has others c ≡ false → new.has cond c ≡ old.has stays c
-  pub other : (c : List ℕ) → IsConfig old.arities c → old.has others c ≡ true → old.has stays c ≡ false
-      → items_at old (take found left) c ++ (if new.has cond c then token ∷ [] else []) ≡ items_at old (take next left) c
-
--- What is put out of a list that has settled, and left of it: all of it, where a configuration is
--- refused, or a token waits that hides a name.
-pub record IsEarly (old : Sets) (hides : List (List Name)) (list : List (Cond × Token)) (live : ℕ) (settled : Settled) (new : Sets) (early : Early) : Type 0 where
-  pub free : List ℕ → Bool
-  pub put : IsWithin old settled.done free new early.put
-  pub part : IsPart list new early.left
-  pub whole : (c : List ℕ) → IsConfig old.arities c → old.has live c ≡ true → free c ≡ false → items_at new early.left c ≡ items_at old list c
-  pub among : (c : List ℕ) → IsConfig old.arities c → free c ≡ true → (old.has live c && has_none old settled.held.items c) ≡ true
-  pub at : (c : List ℕ) → IsConfig old.arities c → free c ≡ true → AreBare hides (items_at old settled.rest c) (items_at new early.left c)
+-- Of what the configurations have gathered that act nothing is left, or it has settled and nothing
+-- holds it: where nothing follows it becomes this.
+abbrev pub HasSettled : Sets → (names files : List (List ℕ)) → Walk → Type 0
+HasSettled s names files w = (c : List ℕ) → IsConfig s.arities c → s.has w.acting.0 c ≡ true → (hidden_at s names files w.runs.sets w.runs.gathered c ≡ [])
+    ⊎ ((held_at s files w.runs.held.items c ≡ [])
+    × Expands place_alone (macros_at s names w.table c) (hidden_at s names files w.runs.sets w.runs.gathered c) (closed (hidden_at s names files w.runs.sets w.runs.gathered c)))

@@ -1,14 +1,20 @@
 -- The walk of all configurations at once is a simulation of the machine of each.
 use Rattle.std.specs.Prelude.{◌≡◌, ℕ, Bool, true, false, List, [], map, reverse, All, Option, Some, None, Result, is_none, length, slice_get}
 use Rattle.std.specs.Option.{option_to_list}
+use Rattle.sc_prep.specs.declared.open_runs.OpenRuns.{OpenRuns}
 use Rattle.sc_prep.specs.declared.prepared.Prepared.{Prepared}
 use Rattle.sc_prep.specs.declared.walk.Section.{Section}
 use Rattle.sc_prep.specs.declared.walk.Walk.{Walk}
 use Rattle.sc_prep.specs.Machine.{Machine, Runs, RunExpands, acts, closing_run, start}
 use Rattle.sc_prep.specs.Once.{OwnsOnce, once_at}
 use Rattle.sc_prep.specs.Preprocesses.{OwnsList}
+use Rattle.sc_prep.specs.Read.{run_at}
 use Rattle.sc_guarded.specs.Items.{items_at, faults_at, seen_fault}
+use Rattle.sc_base.specs.declared.fault.Fault as base_fault
+use Rattle.sc_base.specs.declared.id.Cond.{Cond}
+use Rattle.sc_base.specs.declared.token.Token as base_token
 use Rattle.sc_base.specs.Seen.{seen}
+use Rattle.sc_subst.specs.declared.hidden.Hidden as base_hidden
 use Rattle.sc_table.specs.declared.table.MacroTable.{MacroTable}
 use Rattle.c11_directives.specs.Lines.{Line}
 use Rattle.c11_directives.specs.Pre.{Context, State, is_once_file}
@@ -16,7 +22,7 @@ use Rattle.sc_model.specs.declared.standard.Standard.{Standard}
 use Rattle.sc_model.specs.Outside.{Files}
 use Rattle.sc_model.specs.Space.{Space}
 use Rattle.sc_prep.specs.Contents.{AreContents}
-use Rattle.sc_prep.specs.Gathered.{HasText}
+use Rattle.sc_prep.specs.Gathered.{HasText, held_at, hidden_at}
 use Rattle.sc_prep.specs.declared.content.Contents.{Contents}
 use Rattle.sc_prep.specs.Printable.{IsHeldWalk, IsPlainState, any_token}
 use Rattle.sc_prep.specs.declared.entry.Entry.{Entry}
@@ -40,6 +46,11 @@ pub record IsBegun (s : Sets) (names : List (List ℕ)) (table : MacroTable) (co
   pub run : first.run ≡ []
   pub once : first.once ≡ []
 
+-- What this configuration has of a run: it was read, and what has become of it.
+pub record RunAt (s : Sets) (names files : List (List ℕ)) (runs : OpenRuns) (list : List (Cond × base_token.Token)) (config : List ℕ) (state : State) : Type 0 where
+  pub run : map (seen names files) (run_at s runs.read config) ≡ state.run
+  pub text : HasText state (hidden_at s names files runs.sets runs.gathered config) (map (seen names files) (items_at s list config)) (held_at s files runs.held.items config)
+
 -- At this configuration the walk is where the machine is. The tokens of a configuration with a
 -- fault don't count.
 pub record Simulates (s : Sets) (names files : List (List ℕ)) (walk : Walk) (config : List ℕ) (m : Machine) : Type 0 where
@@ -47,8 +58,7 @@ pub record Simulates (s : Sets) (names files : List (List ℕ)) (walk : Walk) (c
   pub acting : s.has walk.acting.0 config ≡ acts m
   pub sections : map (section_at s config) (reverse walk.sections.items) ≡ m.sections
   pub prepared : IsOutcomeOf s files walk.prepared config m
-  pub text : m.fault ≡ None
-      → HasText m.state (map (seen names files) (items_at s walk.gathered config)) (map (seen names files) (items_at s walk.prepared.list config))
+  pub text : m.fault ≡ None → RunAt s names files walk.runs walk.prepared.list config m.state
   pub macros : m.fault ≡ None → (name : List ℕ) → macros_at s names walk.table config name ≡ m.state.macros name
   pub once : m.fault ≡ None → (name : List ℕ) → once_at s files walk.once.items config name ≡ is_once_file m.state name
 
@@ -56,12 +66,17 @@ pub record OwnsSection (s : Sets) (section : Section) : Type 0 where
   pub around : IsCond s section.around.0
   pub untaken : IsCond s section.untaken.0
 
+pub record OwnsRuns (s : Sets) (runs : OpenRuns) : Type 0 where
+  pub gathered : All (λ (item : Cond × base_hidden.Hidden). IsCond s item.0.0) runs.gathered
+  pub held : All (λ (f : base_fault.Fault). IsCond s f.cond.0) runs.held.items
+  pub read : All (λ (item : Cond × Option base_token.Token). IsCond s item.0.0) runs.read
+
 -- the store made all conditions of the walk but for those of its table
 pub record Owns (s : Sets) (walk : Walk) : Type 0 where
   pub group : IsCond s walk.group.0
   pub acting : IsCond s walk.acting.0
   pub sections : All (OwnsSection s) walk.sections.items
-  pub gathered : All (λ item. IsCond s item.0.0) walk.gathered
+  pub runs : OwnsRuns s walk.runs
   pub once : OwnsOnce s walk.once.items
   pub prepared : OwnsList s walk.prepared
 

@@ -37,11 +37,11 @@ pub record IsStored (s : Sets) (names : List (List ℕ)) (files : ℕ) (walk : W
   pub table : IsTable s names walk.table
   pub held : IsHeldWalk names files any_token walk
 
--- from one walk to the next nothing is put out or gathered, and the tables hold what is kept
+-- from one walk to the next nothing is put out or read, and the tables hold what is kept
 pub record KeepsText (names : List (List ℕ)) (files : ℕ) (walk next : Walk) : Type 0 where
   pub held : IsHeldWalk names files any_token next
   pub list : next.prepared.list ≡ walk.prepared.list
-  pub gathered : next.gathered ≡ walk.gathered
+  pub runs : next.runs ≡ walk.runs
 
 -- the machine of each configuration does one of these, and the text stays
 pub record Stage (files names : List (List ℕ)) (old : Sets) (walk : Walk) (more : List (List ℕ)) (new : Sets) (next : Walk)
@@ -49,7 +49,7 @@ pub record Stage (files names : List (List ℕ)) (old : Sets) (walk : Walk) (mor
   pub simulates : SimulatesOneOf files names old walk more new next does
   pub text : KeepsText more (length files) walk next
 
--- the machine of each configuration does one of these, and tokens of the line alone are gathered
+-- the machine of each configuration does one of these, and tokens of the line alone are read
 pub record LineStage (files names : List (List ℕ)) (old : Sets) (walk : Walk) (line : List Token) (more : List (List ℕ)) (new : Sets) (next : Walk)
     (does : List ℕ → Machine → Machine → Type 0) : Type 0 where
   pub simulates : SimulatesOneOf files names old walk more new next does

@@ -1,21 +1,21 @@
-ghost use Rattle.std.specs.Prelude.{◌≡◌, ℕ, ◌<◌, ◌++◌, ◌∷◌, [], List, All, true, length, IfErr, IfOk, OnOk, if◌then◌else◌};
-ghost use Rattle.sc_base.specs.declared.token.Token as base;
-ghost use Rattle.sc_base.specs.declared.id.Cond.{Cond};
+ghost use Rattle.std.specs.Prelude.{◌≡◌, ℕ, ◌++◌, ◌∷◌, [], List, All, Ok, true, false, length, IfErr, IfOk, OnOk};
 ghost use Rattle.c11_directives.specs.Footprints.{NameHas};
 ghost use Rattle.sc_guarded.specs.Items.{items_at};
 ghost use Rattle.sc_model.specs.Growth.{Extends};
 ghost use Rattle.sc_model.specs.Sets.{IsCond, IsConfig, Keeps};
-ghost use Rattle.sc_prep.specs.Closes.{IsPart, IsWithin, PutsOut, RefusesEach};
-ghost use Rattle.sc_prep.specs.Apart.{tokens_in};
+ghost use Rattle.sc_prep.specs.Closes.{IsWithin, RefusesEach};
 ghost use Rattle.sc_prep.specs.Machine.{acts};
+ghost use Rattle.sc_prep.specs.Read.{tokens_read};
 ghost use Rattle.sc_prep.specs.Simulates.{Closed, Owns};
+ghost use Rattle.sc_prep.specs.Settles.{EndsRuns, fault_items};
 ghost use Rattle.sc_prep.specs.Stages.{IsStored, LineStage, StopsStage};
 
 use crate::walk::Walk;
-use sc_base::{Cond, Fault, Files, Names, OutOfMemory, Stop, Token};
-use sc_expand::expand;
-use sc_guarded::{Expanded, Guarded};
+use sc_base::{Cond, Fault, Files, Names, OutOfMemory, Stop};
+use sc_expand::close;
+use sc_guarded::Guarded;
 use sc_presence::Conditions;
+use sc_subst::Hidden;
 use std::alloc::Global;
 
 impl Walk {
@@ -32,7 +32,7 @@ impl Walk {
         requires stored { IsStored (C.sets conds.old) names.old (length files.now) self.old }
         ensures closes { OnOk result (LineStage files.now names.old (C.sets conds.old) self.old [] names.new (C.sets conds.new) self.new
             (λ config m n. Closed m n)) }
-        ensures stops { IfErr result (StopsStage (C.sets conds.old) names.old files.now self.old (tokens_in self.old.gathered)
+        ensures stops { IfErr result (StopsStage (C.sets conds.old) names.old files.now self.old (tokens_read self.old.runs.read)
             (λ config m f. (acts m ≡ true) × NameHas m.state.macros m.state.run f) limit) }
 
         // at every outcome
@@ -42,71 +42,33 @@ impl Walk {
         if conds.is_never(self.acting) {
             return Ok(());
         }
-        if self.gathered.len() == 0 {
-            return Ok(());
-        }
         self.settle_runs(alloc, conds, names, files, limit)?;
-        self.close_gathered(alloc, conds, names, files, limit)
-    }
-
-    /// What was gathered is put out as what it expands to, in the configurations that act.
-    #[tactic(auto, using(sc_model::proofs::SetLemmas::conditions))]
-    fn close_gathered<C: Conditions>(
-        &mut self,
-        alloc: Global,
-        conds: &mut C,
-        names: &mut Names,
-        files: &Files,
-        limit: usize,
-    ) -> Result<(), Stop>
-        requires stored { IsStored (C.sets conds.old) names.old (length files.now) self.old }
-        ensures closes { OnOk result (LineStage files.now names.old (C.sets conds.old) self.old [] names.new (C.sets conds.new) self.new
-            (λ config m n. Closed m n)) }
-        ensures stops { IfErr result (StopsStage (C.sets conds.old) names.old files.now self.old (tokens_in self.old.gathered)
-            (λ config m f. (acts m ≡ true) × NameHas m.state.macros m.state.run f) limit) }
-
-        // at every outcome
-        ensures keeps { Keeps (C.sets conds.old) (C.sets conds.new) }
-        ensures names { Extends names.old names.new }
-    {
-        let expanded = expand(
-            alloc,
-            conds,
-            &self.table,
-            &self.gathered,
-            self.acting,
-            limit,
-            names,
-            files,
-        )?;
-        self.put_out(alloc, conds, &expanded)?;
+        self.end_runs(alloc, conds)?;
         Ok(())
     }
 
-    /// The configurations that act put out this, or are refused.
+    /// The runs of the configurations that act end where their text has settled: nothing follows
+    /// what waits of it, and what holds them becomes their fault.
     #[tactic(auto, using(sc_model::proofs::SetLemmas::conditions))]
-    fn put_out<C: Conditions>(
-        &mut self,
-        alloc: Global,
-        conds: &mut C,
-        expanded: &Expanded,
-    ) -> Result<(), OutOfMemory>
+    fn end_runs<C: Conditions>(&mut self, alloc: Global, conds: &mut C) -> Result<(), OutOfMemory>
         requires owns { Owns (C.sets conds.old) self.old }
-        requires list { All (λ item. IsCond (C.sets conds.old) item.0.0) expanded.now.list }
-        requires faults { All (λ fault. IsCond (C.sets conds.old) fault.cond.0) expanded.now.faults.items }
-        ensures puts { OnOk result (PutsOut (C.sets conds.old) self.old expanded.now (C.sets conds.new) self.new) }
+        ensures ends { OnOk result (EndsRuns (C.sets conds.old) self.old (C.sets conds.new) self.new) }
 
         // at every outcome
         ensures keeps { Keeps (C.sets conds.old) (C.sets conds.new) }
     {
-        let closed = self.acting;
-        self.refuse_each(conds, &expanded.faults)?;
-        let others = conds.negate(closed)?;
-        let open = conds.apply_and(self.prepared.live, others)?;
-        let added = within(alloc, conds, &expanded.list, self.prepared.live)?;
-        let gathered = within(alloc, conds, &self.gathered, open)?;
-        append(&mut self.prepared.list, &added)?;
-        self.gathered = gathered;
+        let acting = self.acting;
+        let closed = close(alloc, conds, &self.runs.gathered, acting)?;
+        let others = conds.negate(acting)?;
+        let gathered = within(alloc, conds, &self.runs.gathered, others)?;
+        let ended = faults_within(alloc, conds, &self.runs.held, acting)?;
+        let held = faults_within(alloc, conds, &self.runs.held, others)?;
+        append(&mut self.prepared.list, &closed.list)?;
+        self.runs.gathered = gathered;
+        self.runs.held = held;
+        self.runs.end(alloc, conds, acting, self.prepared.live)?;
+        self.refuse_each(conds, &closed.faults)?;
+        self.refuse_each(conds, &ended)?;
         Ok(())
     }
 
@@ -156,14 +118,39 @@ impl Walk {
     }
 }
 
+/// Whether a configuration of `by` has an item.
+#[tactic(auto, using(sc_model::proofs::SetLemmas::conditions))]
+pub fn is_met<C: Conditions>(
+    conds: &mut C,
+    items: &Guarded<Hidden>,
+    by: Cond,
+) -> Result<bool, OutOfMemory>
+    requires own { All (λ item. IsCond (C.sets conds.old) item.0.0) items.now }
+    requires by_own { IsCond (C.sets conds.old) by.0 }
+    ensures none { result ≡ Ok false → (c : List ℕ) → IsConfig (C.sets conds.old).arities c → (C.sets conds.old).has by.0 c ≡ true
+        → items_at (C.sets conds.old) items.now c ≡ [] }
+
+    // at every outcome
+    ensures keeps { Keeps (C.sets conds.old) (C.sets conds.new) }
+{
+    for index in 0..items.len() {
+        let (has, _) = items.item(index);
+        let part = conds.apply_and(has, by)?;
+        if !conds.is_never(part) {
+            return Ok(true);
+        }
+    }
+    Ok(false)
+}
+
 /// The items that a configuration of `by` has, each in those configurations.
 #[tactic(auto, using(sc_model::proofs::SetLemmas::conditions))]
-pub fn within<C: Conditions>(
+pub fn within<C: Conditions, T: Copy + Drop>(
     alloc: Global,
     conds: &mut C,
-    items: &Guarded<Token>,
+    items: &Guarded<T>,
     by: Cond,
-) -> Result<Guarded<Token>, OutOfMemory>
+) -> Result<Guarded<T>, OutOfMemory>
     requires own { All (λ item. IsCond (C.sets conds.old) item.0.0) items.now }
     requires by_own { IsCond (C.sets conds.old) by.0 }
     ensures within { IfOk result (λ kept. IsWithin (C.sets conds.old) items.now ((C.sets conds.old).has by.0) (C.sets conds.new) kept) }
@@ -175,33 +162,44 @@ pub fn within<C: Conditions>(
     for index in 0..items.len() {
         let item = items.item(index);
         let part = conds.apply_and(item.0, by)?;
-        push_some(conds, &mut kept, part, *item.1)?;
+        if !conds.is_never(part) {
+            kept.push(part, *item.1)?;
+        }
     }
     Ok(kept)
 }
 
-/// Puts an item of a list at the end of others of it, where some configuration has it.
-pub fn push_some<C: Conditions>(
-    conds: &C,
-    kept: &mut Guarded<Token>,
-    cond: Cond,
-    token: Token,
-) -> Result<(), OutOfMemory>
-    requires { IsCond (C.sets conds.now) cond.0 }
-    ensures part { OnOk result ((items : List (Cond × base.Token)) (item : Cond) → IsPart items (C.sets conds.now) kept.old
-        → IsPart (items ++ (item, token) ∷ []) (C.sets conds.now) kept.new) }
-    ensures at { OnOk result ((c : List ℕ) → IsConfig (C.sets conds.now).arities c → items_at (C.sets conds.now) kept.new c
-        ≡ items_at (C.sets conds.now) kept.old c ++ (if (C.sets conds.now).has cond.0 c then token ∷ [] else [])) }
+/// The faults that a configuration of `by` has, each in those configurations.
+#[tactic(auto, using(sc_model::proofs::SetLemmas::conditions))]
+fn faults_within<C: Conditions>(
+    alloc: Global,
+    conds: &mut C,
+    faults: &[Fault],
+    by: Cond,
+) -> Result<Vec<Fault>, OutOfMemory>
+    requires own { All (λ fault. IsCond (C.sets conds.old) fault.cond.0) faults.now }
+    requires by_own { IsCond (C.sets conds.old) by.0 }
+    ensures within { IfOk result (λ kept. IsWithin (C.sets conds.old) (fault_items faults.now) ((C.sets conds.old).has by.0) (C.sets conds.new) (fault_items kept.items)) }
+
+    // at every outcome
+    ensures keeps { Keeps (C.sets conds.old) (C.sets conds.new) }
 {
-    if conds.is_never(cond) {
-        return Ok(());
+    let mut kept = Vec::new(alloc);
+    for fault in faults {
+        let part = conds.apply_and(fault.cond, by)?;
+        if !conds.is_never(part) {
+            kept.push(Fault {
+                cond: part,
+                cause: fault.cause,
+                place: fault.place,
+            })?;
+        }
     }
-    kept.push(cond, token)?;
-    Ok(())
+    Ok(kept)
 }
 
 /// Puts the items of a list at the end of another.
-pub fn append(list: &mut Guarded<Token>, items: &Guarded<Token>) -> Result<(), OutOfMemory>
+pub fn append<T: Copy + Drop>(list: &mut Guarded<T>, items: &Guarded<T>) -> Result<(), OutOfMemory>
     ensures { OnOk result (list.new ≡ list.old ++ items.now) }
 {
     for index in 0..items.len() {

@@ -14,10 +14,11 @@ ghost use Rattle.sc_macro.specs.Reads.{seen_defined};
 ghost use Rattle.sc_macro.specs.Seen.{IsHeldDefinition};
 ghost use Rattle.sc_model.specs.declared.standard.Standard.{Standard};
 ghost use Rattle.sc_model.specs.Growth.{Extends};
-ghost use Rattle.sc_prep.specs.Apart.{GathersFrom, tokens_in};
+ghost use Rattle.sc_prep.specs.Apart.{GathersFrom};
 ghost use Rattle.sc_prep.specs.Footprints.{ComesAt};
 ghost use Rattle.sc_prep.specs.Machine as machine;
 ghost use Rattle.sc_prep.specs.Machine.{Decided, Takes, acts, changed_by, changing, defined_as, ends_run, plain_by};
+ghost use Rattle.sc_prep.specs.Read.{tokens_read};
 ghost use Rattle.sc_prep.specs.Simulates.{Owns, SimulatesStep, StepsBetweenRuns};
 ghost use Rattle.sc_lines.specs.Nests.{seen_line};
 ghost use Rattle.sc_prep.specs.Printable.{IsPlaced, StaysHeld};
@@ -54,7 +55,7 @@ impl Walk {
         requires stored { IsStored (C.sets conds.old) names.old (length files.now) self.old }
         ensures takes { OnOk result ((x : Context) → LineStage files.now names.old (C.sets conds.old) self.old tokens.now
             names.new (C.sets conds.new) self.new (λ config m n. Takes x m (seen_line standard names.old files.now tokens.now) n)) }
-        ensures stops { (x : Context) → IfErr result (StopsStage (C.sets conds.old) names.old files.now self.old (tokens_in self.old.gathered ++ tokens.now)
+        ensures stops { (x : Context) → IfErr result (StopsStage (C.sets conds.old) names.old files.now self.old (tokens_read self.old.runs.read ++ tokens.now)
             (λ config m. MomentsHave (ComesAt x m (seen_line standard names.old files.now tokens.now))) limit) }
 
         // at every outcome
@@ -102,7 +103,7 @@ impl Walk {
         requires stored { IsStored (C.sets conds.old) names.old (length files.now) self.old }
         ensures takes { OnOk result ((x : Context) → LineStage files.now names.old (C.sets conds.old) self.old line.now names.new (C.sets conds.new) self.new
             (λ config m n. Takes x m (seen_line standard names.old files.now line.now) n)) }
-        ensures stops { (x : Context) → IfErr result (StopsStage (C.sets conds.old) names.old files.now self.old (tokens_in self.old.gathered ++ line.now)
+        ensures stops { (x : Context) → IfErr result (StopsStage (C.sets conds.old) names.old files.now self.old (tokens_read self.old.runs.read ++ line.now)
             (λ config m. MomentsHave (ComesAt x m (seen_line standard names.old files.now line.now))) limit) }
 
         // at every outcome
@@ -136,7 +137,7 @@ impl Walk {
         requires stored { IsStored (C.sets conds.old) names.old (length files.now) self.old }
         ensures takes { OnOk result ((x : Context) → LineStage files.now names.old (C.sets conds.old) self.old line.now names.new (C.sets conds.new) self.new
             (λ config m n. Takes x m (seen_line standard names.old files.now line.now) n)) }
-        ensures stops { (x : Context) → IfErr result (StopsStage (C.sets conds.old) names.old files.now self.old (tokens_in self.old.gathered ++ line.now)
+        ensures stops { (x : Context) → IfErr result (StopsStage (C.sets conds.old) names.old files.now self.old (tokens_read self.old.runs.read ++ line.now)
             (λ config m. MomentsHave (ComesAt x m (seen_line standard names.old files.now line.now))) limit) }
 
         // at every outcome
@@ -257,7 +258,7 @@ impl Walk {
         ensures moved { OnOk result ((standard : Standard) (names : List (List ℕ)) → SimulatesStep names (C.sets conds.old) self.old (C.sets conds.new) self.new
             (λ files config m. plain_by m (seen_line standard names files line.now) (Some directive))) }
         ensures memory { IfErr result (λ s. s ≡ stop.OutOfMemory) }
-        ensures gathered { OnOk result (self.new.gathered ≡ self.old.gathered) }
+        ensures runs { OnOk result (self.new.runs ≡ self.old.runs) }
         ensures keeps { Keeps (C.sets conds.old) (C.sets conds.new) }
     {
         match refusal(directive) {
@@ -285,7 +286,7 @@ impl Walk {
             (λ files config m. changing m (seen_line standard names.now files line.now) kind.Define
             (changed_by m.state.macros (seen_line standard names.now files line.now) kind.Define))) }
         ensures memory { IfErr result (λ s. s ≡ stop.OutOfMemory) }
-        ensures gathered { OnOk result (self.new.gathered ≡ self.old.gathered) }
+        ensures runs { OnOk result (self.new.runs ≡ self.old.runs) }
         ensures keeps { Keeps (C.sets conds.old) (C.sets conds.new) }
     {
         match read_define(alloc, names, standard, line) {
@@ -312,7 +313,7 @@ impl Walk {
         ensures moved { OnOk result ((standard : Standard) → StepsBetweenRuns names.now (C.sets conds.old) self.old (C.sets conds.new) self.new
             (λ files config m. changing m (seen_line standard names.now files line.now) kind.Define (defined_as m.state.macros (Ok (seen_defined names.now definition))))) }
         ensures memory { IfErr result (λ s. s ≡ stop.OutOfMemory) }
-        ensures gathered { OnOk result (self.new.gathered ≡ self.old.gathered) }
+        ensures runs { OnOk result (self.new.runs ≡ self.old.runs) }
         ensures keeps { Keeps (C.sets conds.old) (C.sets conds.new) }
     {
         let refused = self.table.define(conds, names, definition, self.acting)?;
@@ -337,7 +338,7 @@ impl Walk {
             (λ files config m. changing m (seen_line standard names.now files line.now) kind.Undef
             (changed_by m.state.macros (seen_line standard names.now files line.now) kind.Undef))) }
         ensures memory { IfErr result (λ s. s ≡ stop.OutOfMemory) }
-        ensures gathered { OnOk result (self.new.gathered ≡ self.old.gathered) }
+        ensures runs { OnOk result (self.new.runs ≡ self.old.runs) }
         ensures keeps { Keeps (C.sets conds.old) (C.sets conds.new) }
     {
         match operand(names, line) {
@@ -363,7 +364,7 @@ impl Walk {
         ensures moved { OnOk result ((standard : Standard) → StepsBetweenRuns names.now (C.sets conds.old) self.old (C.sets conds.new) self.new
             (λ files config m. changing m (seen_line standard names.now files line.now) kind.Undef (undefined m.state.macros (Some (text_at names.now name.0))))) }
         ensures memory { IfErr result (λ s. s ≡ stop.OutOfMemory) }
-        ensures gathered { OnOk result (self.new.gathered ≡ self.old.gathered) }
+        ensures runs { OnOk result (self.new.runs ≡ self.old.runs) }
         ensures keeps { Keeps (C.sets conds.old) (C.sets conds.new) }
     {
         let refused = self.table.undef(conds, names, name, self.acting)?;

@@ -3,9 +3,9 @@ ghost use Rattle.std.specs.Prelude.{◌≡◌, IfOk, OnOk, List, ℕ};
 ghost use Rattle.sc_model.specs.Sets.{IsCond, Keeps};
 ghost use Rattle.sc_prep.specs.Entering.{Begins, Leaves};
 
+use crate::open_runs::OpenRuns;
 use crate::walk::{Section, Walk};
-use sc_base::{Cond, OutOfMemory, Token};
-use sc_guarded::Guarded;
+use sc_base::{Cond, OutOfMemory};
 use sc_presence::Conditions;
 use std::alloc::Global;
 use std::mem;
@@ -15,8 +15,8 @@ use std::mem;
 pub struct Around {
     pub group: Cond,
     pub sections: Vec<Section>,
-    /// The text of configurations that do not enter the file.
-    pub gathered: Guarded<Token>,
+    /// The runs of configurations that do not enter the file.
+    pub runs: OpenRuns,
 }
 
 impl Walk {
@@ -24,8 +24,7 @@ impl Walk {
     pub fn begin_file(&mut self, alloc: Global, entering: Cond) -> Result<Around, OutOfMemory>
         ensures { IfOk result (λ around. Begins self.old entering self.new around) }
     {
-        let nothing = Guarded::new(alloc)?;
-        let gathered = mem::replace(&mut self.gathered, nothing);
+        let runs = mem::replace(&mut self.runs, OpenRuns::new(alloc)?);
         let sections = mem::replace(&mut self.sections, Vec::new(alloc));
         let group = self.group;
         self.group = entering;
@@ -33,7 +32,7 @@ impl Walk {
         Ok(Around {
             group,
             sections,
-            gathered,
+            runs,
         })
     }
 
@@ -54,7 +53,7 @@ impl Walk {
         let acting = conds.apply_and(around.group, self.prepared.live)?;
         self.group = around.group;
         self.sections = around.sections;
-        self.gathered = around.gathered;
+        self.runs = around.runs;
         self.acting = acting;
         Ok(())
     }

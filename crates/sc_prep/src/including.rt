@@ -76,7 +76,7 @@ impl Walk {
             → PlainEach (C.sets conds.old) names.old files.old self.old (IsIn files.old entry) → ArePlainPaths files.new) }
         ensures read { OnOk result (KeepsContents contents.old contents.new) }
         ensures stops { IfErr result (Stops (C.sets conds.old).arities (seen_space space.now).branches (S.faults src.old) (S.faults src.new)) }
-        ensures gathered { OnOk result (self.new.gathered ≡ self.old.gathered) }
+        ensures runs { OnOk result (self.new.runs ≡ self.old.runs) }
         ensures footprints { (d : Directive) → (seen_line space.now.standard names.old files.old line.now).directive ≡ Some d → is_said d ≡ true
             → StandApart line.now
             → IfErr result (StopsWalk (C.sets conds.old) names.old files.old self.old any_machine
@@ -160,7 +160,7 @@ impl Walk {
         ensures moved { OnOk result ((standard : Standard) (names : List (List ℕ)) → SimulatesStep names (C.sets conds.old) self.old (C.sets conds.new) self.new
             (λ files config m. refusing_if ((C.sets conds.old).has part.0 config) m (seen_line standard names files line.now) cause)) }
         ensures list { OnOk result (self.new.prepared.list ≡ self.old.prepared.list) }
-        ensures gathered { OnOk result (self.new.gathered ≡ self.old.gathered) }
+        ensures runs { OnOk result (self.new.runs ≡ self.old.runs) }
         ensures keeps { Keeps (C.sets conds.old) (C.sets conds.new) }
     {
         let refused = conds.apply_and(part, self.acting)?;

@@ -18,6 +18,7 @@ mod naming;
 mod next_line;
 mod numbering;
 mod once;
+mod open_runs;
 mod prepared;
 mod settling;
 mod valid;

@@ -9,12 +9,13 @@ ghost use Rattle.sc_lines.specs.Split.{directive_at};
 ghost use Rattle.sc_model.specs.Growth.{Extends};
 ghost use Rattle.sc_model.specs.Sets.{IsCond, Keeps};
 ghost use Rattle.sc_prep.specs.Contents.{Agrees, AreHeldLines, KeepsContents, content_at};
-ghost use Rattle.sc_prep.specs.Apart.{GathersFrom, StandApart, tokens_in};
+ghost use Rattle.sc_prep.specs.Apart.{GathersFrom, StandApart};
 ghost use Rattle.sc_prep.specs.Footprints.{ComesAt, ComesInside, ComesOver, StopsWalk};
 ghost use Rattle.sc_prep.specs.Includes.{EntersAt};
 ghost use Rattle.sc_prep.specs.Machine.{Takes};
 ghost use Rattle.sc_prep.specs.Preprocesses.{Stops};
 ghost use Rattle.sc_prep.specs.Printable.{AllPass, ArePlainPaths, IsPlaced, is_plain};
+ghost use Rattle.sc_prep.specs.Read.{tokens_read};
 ghost use Rattle.sc_prep.specs.Simulates.{Covers, IsAtTop, IsBetweenRuns, IsContext, IsIn, IsReady, Leads, PlainEach};
 ghost use Rattle.sc_space.specs.Seen.{seen_space};
 ghost use Rattle.sc_space.specs.Sound.{IsSound};
@@ -64,7 +65,7 @@ impl Walk {
             → ArePlainPaths files.old → PlainEach (C.sets conds.old) names.old files.old self.old (IsAtTop files.old entry) → ArePlainPaths files.new) }
         ensures read { OnOk result (KeepsContents contents.old contents.new) }
         ensures stops { IfErr result (Stops (C.sets conds.old).arities (seen_space space.now).branches (S.faults src.old) (S.faults src.new)) }
-        ensures footprints { (x : Context) → IsContext (seen_space space.now) x → S.holds src.old ≡ Some x.files → self.old.gathered ≡ [] → StandApart file.now.tokens.items
+        ensures footprints { (x : Context) → IsContext (seen_space space.now) x → S.holds src.old ≡ Some x.files → self.old.runs.read ≡ [] → StandApart file.now.tokens.items
             → IfErr result (StopsWalk (C.sets conds.old) names.old files.old self.old (IsAtTop files.old entry)
             (λ config m. MomentsHave (ComesOver x (seen_lines space.now.standard names.old files.old file.now.tokens.items) m))
             (seen_space space.now).branches) }
@@ -123,7 +124,7 @@ impl Walk {
         ensures read { OnOk result (KeepsContents contents.old contents.new) }
         ensures stops { IfErr result (Stops (C.sets conds.old).arities (seen_space space.now).branches (S.faults src.old) (S.faults src.new)) }
         ensures gathers { OnOk result (GathersFrom tokens.now self.old self.new) }
-        ensures footprints { (x : Context) → IsContext (seen_space space.now) x → S.holds src.old ≡ Some x.files → StandApart (tokens_in self.old.gathered ++ tokens.now)
+        ensures footprints { (x : Context) → IsContext (seen_space space.now) x → S.holds src.old ≡ Some x.files → StandApart (tokens_read self.old.runs.read ++ tokens.now)
             → IfErr result (StopsWalk (C.sets conds.old) names.old files.old self.old (IsIn files.old entry)
             (λ config m. MomentsHave (ComesAt x m (seen_line space.now.standard names.old files.old tokens.now))) (seen_space space.now).branches) }
 
@@ -189,7 +190,7 @@ impl Walk {
         ensures read { OnOk result (KeepsContents contents.old contents.new) }
         ensures stops { IfErr result (Stops (C.sets conds.old).arities (seen_space space.now).branches (S.faults src.old) (S.faults src.new)) }
         ensures gathers { OnOk result (GathersFrom line.now self.old self.new) }
-        ensures footprints { (x : Context) → IsContext (seen_space space.now) x → S.holds src.old ≡ Some x.files → StandApart (tokens_in self.old.gathered ++ line.now)
+        ensures footprints { (x : Context) → IsContext (seen_space space.now) x → S.holds src.old ≡ Some x.files → StandApart (tokens_read self.old.runs.read ++ line.now)
             → IfErr result (StopsWalk (C.sets conds.old) names.old files.old self.old (IsIn files.old entry)
             (λ config m. MomentsHave (ComesAt x m (seen_line space.now.standard names.old files.old line.now))) (seen_space space.now).branches) }
 
@@ -257,7 +258,7 @@ impl Walk {
             → ArePlainPaths files.old → PlainEach (C.sets conds.old) names.old files.old self.old IsBetweenRuns → ArePlainPaths files.new) }
         ensures read { OnOk result (KeepsContents contents.old contents.new) }
         ensures stops { IfErr result (Stops (C.sets conds.old).arities (seen_space space.now).branches (S.faults src.old) (S.faults src.new)) }
-        ensures gathered { OnOk result (self.new.gathered ≡ self.old.gathered) }
+        ensures runs { OnOk result (self.new.runs ≡ self.old.runs) }
         ensures footprints { (x : Context) → IsContext (seen_space space.now) x → S.holds src.old ≡ Some x.files
             → IfErr result (StopsWalk (C.sets conds.old) names.old files.old self.old IsBetweenRuns
             (λ config m f. ((C.sets conds.old).has cond.0 config ≡ true) × MomentsHave (ComesInside x (text_at files.old entry.file.0) entry.depth m) f) (seen_space space.now).branches) }

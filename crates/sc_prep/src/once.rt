@@ -39,7 +39,7 @@ impl Walk {
         ensures printable { OnOk result (StaysHeld names.now line.now self.old self.new) }
         ensures moved { OnOk result ((standard : Standard) → SimulatesStep names.now (C.sets conds.old) self.old (C.sets conds.new) self.new
             (λ files config m. plain_by m (seen_line standard names.now files line.now) (Some kind.Pragma))) }
-        ensures gathered { OnOk result (self.new.gathered ≡ self.old.gathered) }
+        ensures runs { OnOk result (self.new.runs ≡ self.old.runs) }
         ensures keeps { Keeps (C.sets conds.old) (C.sets conds.new) }
     {
         if is_once(names, line) {

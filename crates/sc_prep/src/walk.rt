@@ -11,10 +11,12 @@ ghost use Rattle.sc_lines.specs.Nests.{seen_line};
 ghost use Rattle.sc_prep.specs.Printable.{StaysHeld};
 
 use crate::once::OnceFile;
+use crate::open_runs::OpenRuns;
 use crate::prepared::Prepared;
 use sc_base::{Cause, Cond, Fault, OutOfMemory, Place, Token};
 use sc_guarded::Guarded;
 use sc_presence::Conditions;
+use sc_subst::Hidden;
 use sc_table::MacroTable;
 use std::alloc::Global;
 
@@ -38,8 +40,8 @@ pub struct Walk {
     pub sections: Vec<Section>,
     /// The macros that are defined.
     pub table: MacroTable,
-    /// The text since the last barrier, which is not expanded yet.
-    pub gathered: Guarded<Token>,
+    /// Runs of configurations that have not ended.
+    pub runs: OpenRuns,
     /// The files that `#pragma once` keeps from being entered again, each once.
     pub once: Vec<OnceFile>,
     /// What was put out and refused so far.
@@ -55,7 +57,7 @@ impl Walk {
         end: Place,
     ) -> Result<Walk, OutOfMemory>
         ensures owns { IfOk result (λ walk. Owns (C.sets conds.now) walk) }
-        ensures empty { IfOk result (λ walk. (walk.gathered ≡ []) × (walk.once.items ≡ []) × (walk.prepared.list ≡ []) × (walk.prepared.faults.items ≡ [])) }
+        ensures empty { IfOk result (λ walk. (walk.runs.gathered ≡ []) × (walk.runs.held.items ≡ []) × (walk.runs.read ≡ []) × (walk.once.items ≡ []) × (walk.prepared.list ≡ []) × (walk.prepared.faults.items ≡ [])) }
         ensures table { IfOk result (λ walk. walk.table ≡ table) }
         ensures end { IfOk result (λ walk. walk.prepared.end ≡ end) }
         ensures starts { IfOk result (λ walk. (names files : List (List ℕ)) (config : List ℕ) (first : State) → IsConfig (C.sets conds.now).arities config
@@ -66,7 +68,7 @@ impl Walk {
             acting: conds.always(),
             sections: Vec::new(alloc),
             table,
-            gathered: Guarded::new(alloc)?,
+            runs: OpenRuns::new(alloc)?,
             once: Vec::new(alloc),
             prepared: Prepared {
                 list: Guarded::new(alloc)?,
@@ -90,7 +92,7 @@ impl Walk {
         ensures list { OnOk result (self.new.prepared.list ≡ self.old.prepared.list) }
         ensures opened { OnOk result ((names : List (List ℕ)) (t : List ℕ → Bool) → Denotes (C.sets conds.old) test.0 t
             → SimulatesStep names (C.sets conds.old) self.old (C.sets conds.new) self.new (λ files config m. opened m (t config))) }
-        ensures gathered { OnOk result (self.new.gathered ≡ self.old.gathered) }
+        ensures runs { OnOk result (self.new.runs ≡ self.old.runs) }
         ensures keeps { Keeps (C.sets conds.old) (C.sets conds.new) }
     {
         let others = conds.negate(test)?;
@@ -120,7 +122,7 @@ impl Walk {
         ensures moved { OnOk result ((names : List (List ℕ)) (t : List ℕ → Bool) → Denotes (C.sets conds.old) test.0 t
             → SimulatesStep names (C.sets conds.old) self.old (C.sets conds.new) self.new (λ files config m. next_branch m (t config) m.sections)) }
         ensures list { OnOk result (self.new.prepared.list ≡ self.old.prepared.list) }
-        ensures gathered { OnOk result (self.new.gathered ≡ self.old.gathered) }
+        ensures runs { OnOk result (self.new.runs ≡ self.old.runs) }
         ensures keeps { Keeps (C.sets conds.old) (C.sets conds.new) }
     {
         let Some(section) = self.sections.pop() else {
@@ -159,7 +161,7 @@ impl Walk {
         ensures printable { OnOk result ((names : List (List ℕ)) (line : List base.Token) → StaysHeld names line self.old self.new) }
         ensures moved { OnOk result ((names : List (List ℕ)) → SimulatesStep names (C.sets conds.old) self.old (C.sets conds.new) self.new (λ files config m. ended m m.sections)) }
         ensures list { OnOk result (self.new.prepared.list ≡ self.old.prepared.list) }
-        ensures gathered { OnOk result (self.new.gathered ≡ self.old.gathered) }
+        ensures runs { OnOk result (self.new.runs ≡ self.old.runs) }
         ensures keeps { Keeps (C.sets conds.old) (C.sets conds.new) }
     {
         let Some(section) = self.sections.pop() else {
@@ -190,7 +192,7 @@ impl Walk {
             → SimulatesStep names (C.sets conds.old) self.old (C.sets conds.new) self.new
             (λ files config m. refusing_if (t config) m (seen_line standard names files line.now) cause)) }
         ensures list { OnOk result (self.new.prepared.list ≡ self.old.prepared.list) }
-        ensures gathered { OnOk result (self.new.gathered ≡ self.old.gathered) }
+        ensures runs { OnOk result (self.new.runs ≡ self.old.runs) }
         ensures keeps { Keeps (C.sets conds.old) (C.sets conds.new) }
     {
         if conds.is_never(part) {
@@ -218,7 +220,7 @@ impl Walk {
         ensures moved { OnOk result ((standard : Standard) (names : List (List ℕ)) → SimulatesStep names (C.sets conds.old) self.old (C.sets conds.new) self.new
             (λ files config m. refusing m (seen_line standard names files line.now) cause)) }
         ensures list { OnOk result (self.new.prepared.list ≡ self.old.prepared.list) }
-        ensures gathered { OnOk result (self.new.gathered ≡ self.old.gathered) }
+        ensures runs { OnOk result (self.new.runs ≡ self.old.runs) }
         ensures keeps { Keeps (C.sets conds.old) (C.sets conds.new) }
     {
         self.refuse(conds, self.acting, cause, line)
@@ -236,8 +238,14 @@ impl Walk {
         if conds.is_never(self.acting) {
             return Ok(());
         }
+        let hide = self.runs.sets.empty();
         for token in line {
-            self.gathered.push(self.acting, *token)?;
+            let hidden = Hidden {
+                token: *token,
+                hide,
+            };
+            self.runs.gathered.push(self.acting, hidden)?;
+            self.runs.read.push(self.acting, Some(*token))?;
         }
         Ok(())
     }

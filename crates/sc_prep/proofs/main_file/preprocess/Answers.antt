@@ -1,11 +1,16 @@
-use Rattle.std.proofs.Common.{◌∙◌, ◌<◌, ◌&&◌, Global, Option, Some, ap, length, sym, subst}
+use Rattle.std.proofs.Common.{◌∙◌, ◌<◌, ◌&&◌, Global, Option, Some, ap, length, refl, sym, subst}
+use Rattle.c11_directives.specs.Footprints.{FilesHave}
 use Rattle.sc_base.specs.declared.place.Place.{Place}
 use Rattle.sc_prep.proofs.Contents.{may-be-held}
 use Rattle.sc_prep.proofs.Facts.{Denotes-self, Extends-keeps, Extends-trans, Extends-within, IsConfig-Keeps, Keeps-trans, err_from_is_err_and, none-some}
 use Rattle.sc_prep.proofs.FindLemmas.{name-absent}
+use Rattle.sc_prep.proofs.LeadMoves.{stops-later}
 use Rattle.sc_prep.proofs.main_file.preprocess.Goals as goal
 use Rattle.sc_prep.proofs.MainFile.{CanBeShown-end, IsOrdinary-end, begins-new, contents-new, end-inside, entered-is, entered-live, entered-out, entered-shown, entered-stops, limited-live, limited-ordinary, limited-out, limited-owns, limited-shown, limited-was, main-end, none-passed, paths-interned, plain-new, ready-new, refused-is, refused-live, refused-out, refused-owns, refused-shown, space-context}
 use Rattle.sc_prep.proofs.MainWalk.{missing-ordinary}
+use Rattle.sc_prep.proofs.NamedFiles.{reading-stops}
+use Rattle.sc_prep.proofs.Stopping.{reading-stops-none}
+use Rattle.sc_prep.specs.Valid.{IsOf}
 use Rattle.sc_prep.proofs.Terms.{Content, FileId, IsRefused, NotFound, Prepared, Rc, Walk, context_of, end_place, fault_at, has_none, is_plain, option_map, seen_place, seen_space}
 
 pub read-requires-clause-contents : goal.read-requires-clause-contents
@@ -229,3 +234,37 @@ returns-in_err-met-clause-keeps g c = Keeps-trans c.enter.ensures.keeps c.apply_
 
 pub returns-clause-keeps : goal.returns-clause-keeps
 returns-clause-keeps g c = Keeps-trans c.enter.ensures.keeps c.apply_and.ensures.keeps
+
+pub returns-in_err-content-clause-stops : goal.returns-in_err-content-clause-stops
+returns-in_err-content-clause-stops g c =
+    let p = err_from_is_err_and c.from_residual-in_err-content.result c.from_residual-in_err-content.ensures.1 in
+    rw (p.1, p.2) (reading-stops (g.C.Conditions.sets c.args.conds.now).arities c.args.space.now.limits.branches (g.S.Source.faults c.args.src.now) (g.S.Source.faults c.read.new.src)
+    c.in_err-content.field-0.0 c.in_err-content.ensures.stops)
+
+pub returns-in_err-content-clause-footprints : goal.returns-in_err-content-clause-footprints
+returns-in_err-content-clause-footprints g c = λ outside holds.
+    let p = err_from_is_err_and c.from_residual-in_err-content.result c.from_residual-in_err-content.ensures.1 in
+    rw (p.1, p.2) (reading-stops-none (IsOf (g.C.Conditions.sets c.args.conds.now) c.args.live.0) (FilesHave (seen_space c.args.space.now) outside c.args.main.now) c.args.space.now.limits.branches
+    (g.S.Source.faults c.args.src.now) (g.S.Source.faults c.read.new.src) c.in_err-content.field-0.0 c.in_err-content.ensures.stops)
+
+pub returns-in_err-refuse_at-clause-stops : goal.returns-in_err-refuse_at-clause-stops
+returns-in_err-refuse_at-clause-stops g c =
+    let p = err_from_is_err_and c.from_residual-in_err-refuse_at.result c.from_residual-in_err-refuse_at.ensures.1 in
+    rw (p.1, p.2) tt
+
+pub returns-in_err-refuse_at-clause-footprints : goal.returns-in_err-refuse_at-clause-footprints
+returns-in_err-refuse_at-clause-footprints g c = λ outside holds.
+    let p = err_from_is_err_and c.from_residual-in_err-refuse_at.result c.from_residual-in_err-refuse_at.ensures.1 in
+    rw (p.1, p.2) tt
+
+pub returns-in_err-enter-clause-stops : goal.returns-in_err-enter-clause-stops
+returns-in_err-enter-clause-stops g c =
+    let p = err_from_is_err_and c.from_residual-in_err-enter.result c.from_residual-in_err-enter.ensures.1 in
+    let now = (g.C.Conditions.sets c.args.conds.now).arities in
+    stops-later {now = now} {mid = g.S.Source.faults c.read.new.src} c.args.space.now.limits.branches (g.S.Source.faults c.enter.new.src) c.from_residual-in_err-enter.result
+    refl c.read.ensures.counted (rw (p.1, p.2) c.in_err-enter.ensures.stops)
+
+pub returns-in_err-met-clause-footprints : goal.returns-in_err-met-clause-footprints
+returns-in_err-met-clause-footprints g c = λ outside holds.
+    let p = err_from_is_err_and c.from_residual-in_err-met.result c.from_residual-in_err-met.ensures.1 in
+    rw (p.1, p.2) tt

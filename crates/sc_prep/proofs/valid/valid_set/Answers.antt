@@ -139,3 +139,8 @@ returns-clause-valid g c =
     (subst (FindsLeast t c.deref-2.result.now) c.in-None.is c.in_ok-cause.ensures) in
     valid-is fresh c.decide_expression.ensures.keeps line is_line c.always-all.result.0 c.in_ok-valid.valid.0
     c.always-all.ensures.meaning.at c.in_ok-valid.ensures.decides never
+
+pub returns-in_err-cause-clause-fails : goal.returns-in_err-cause-clause-fails
+returns-in_err-cause-clause-fails g c =
+    let p = err_from_is_err_and c.from_residual-in_err-cause.result c.from_residual-in_err-cause.ensures.1 in
+    rw (p.1, p.2) (tt, tt)

@@ -1,4 +1,4 @@
-use Rattle.std.proofs.Common.{rules, ◌≡◌, ◌∙◌, ℕ, ◌<◌, ◌++◌, List, [], All, Some, refl, sym, ap, subst, arith, length}
+use Rattle.std.proofs.Common.{rules, ◌≡◌, ◌∙◌, ℕ, ◌<◌, List, [], All, Some, refl, sym, ap, subst, arith, length}
 use Rattle.c11_directives.specs.declared.directive.Directive.TheVariants as kind
 use Rattle.sc_lines.specs.declared.line.Line.{Line}
 use Rattle.sc_prep.proofs.ApartLemmas.{gathers-same, gathers-then, apart-left, apart-right, lines-apart}
@@ -6,17 +6,17 @@ use Rattle.sc_prep.proofs.Contents.{agrees-back, IsPlaced-later}
 use Rattle.sc_prep.proofs.DirectiveStops.{carried-stops, closing-stops}
 use Rattle.sc_prep.proofs.EnterLeads.{begun-plain, held-lines, held-refusal, kept-lines, kept-refusal, leads-inside, leads-nowhere, leads-refused, left-plain, refused-list}
 use Rattle.sc_prep.proofs.ExpressionMoves.{empty_context}
-use Rattle.sc_prep.proofs.Facts.{All-get_or, All-weaker, Extends-refl, Extends-trans, Extends-within, IfErr-weaker, Keeps-trans, directive-files, on_ok_weaker}
+use Rattle.sc_prep.proofs.Facts.{All-get_or, All-weaker, Extends-refl, Extends-trans, Extends-within, IfErr-weaker, Keeps-trans, directive-files, err_from_is_err_and, on_ok_weaker}
 use Rattle.sc_prep.proofs.FileStops.{comes-inside}
 use Rattle.sc_prep.proofs.Going.{entry-within}
 use Rattle.sc_prep.proofs.IncludeLeads.{gone-closed, gone-entered, gone-found, gone-taken, parts-later}
 use Rattle.sc_prep.proofs.LeadMoves.{content-named, contents-stay, leads-one, limit-stops, ready-moved, ready-begun, ready-kept, ready-left, ready-refused, stops-later, stored-ready}
 use Rattle.sc_prep.proofs.LineSteps.{directive-long, lines-stand}
-use Rattle.sc_prep.proofs.NamedFiles.{held-later}
+use Rattle.sc_prep.proofs.Grown.{held-later}
 use Rattle.sc_prep.proofs.Passing.{next-after}
 use Rattle.sc_prep.proofs.PlainRuns.{each-any, path-plain}
 use Rattle.sc_prep.proofs.Stopping.{answer-stops}
-use Rattle.sc_prep.proofs.Terms.{AllPass, ArePartsOf, Around, EntersAt, IsBetweenRuns, IsCond, IsIn, IsPlaced, Leads, Part, StandApart, StandFor, Walk, content_at, directive_at, is_plain, seen_lines, text_at, tokens_in, tokens_of}
+use Rattle.sc_prep.proofs.Terms.{AllPass, ArePartsOf, Around, EntersAt, IsBetweenRuns, IsCond, IsIn, IsPlaced, Leads, Part, StandFor, Walk, content_at, directive_at, is_plain, seen_lines, text_at, tokens_read, tokens_of}
 use Rattle.sc_prep.proofs.WalkLeads.{gone-line, gone-nowhere, gone-over, line-directive, line-placed-now}
 use Rattle.sc_prep.proofs.WalkMoves.{owns-kept}
 use Rattle.sc_prep.proofs.WalkStops.{apart-first, apart-line, apart-next, end-stops, file-stops, line-stops, to_come}
@@ -93,9 +93,9 @@ enter-returns-in_ok-end_file-in-Lines-clause-ready g t c =
     ready-left end.keeps walked.ready end.leaves c.in_ok-around-in-Lines.ensures (owns-kept (Keeps-trans c.in_ok-inside.ensures.keeps walked.keeps) w ready.owns) (held-later walked.names walked.files w ready.held)
 
 -- what was gathered around the file is there again
-pub enter-returns-in_ok-end_file-in-Lines-clause-gathered : goal.enter-returns-in_ok-end_file-in-Lines-clause-gathered
-enter-returns-in_ok-end_file-in-Lines-clause-gathered g t c =
-    ap (λ (v : Walk). v.gathered) c.in_ok-end_file-in-Lines.ensures.leaves.is ∙ ap (λ (a : Around). a.gathered) c.in_ok-around-in-Lines.ensures.around_is
+pub enter-returns-in_ok-end_file-in-Lines-clause-runs : goal.enter-returns-in_ok-end_file-in-Lines-clause-runs
+enter-returns-in_ok-end_file-in-Lines-clause-runs g t c =
+    ap (λ (v : Walk). v.runs) c.in_ok-end_file-in-Lines.ensures.leaves.is ∙ ap (λ (a : Around). a.runs) c.in_ok-around-in-Lines.ensures.around_is
 
 -- ---- whoever enters it is refused
 
@@ -160,8 +160,8 @@ pub enter-returns-in_ok-refuse_at-in-Refused-clause-plain : goal.enter-returns-i
 enter-returns-in_ok-refuse_at-in-Refused-clause-plain g t c = λ x context agrees sound paths each list.
     subst (AllPass (is_plain c.args.names.now)) (sym (refused-list c.in_ok-refuse_at-in-Refused.ensures.refuses)) list
 
-pub enter-returns-in_ok-refuse_at-in-Refused-clause-gathered : goal.enter-returns-in_ok-refuse_at-in-Refused-clause-gathered
-enter-returns-in_ok-refuse_at-in-Refused-clause-gathered g t c = ap (λ (v : Walk). v.gathered) c.in_ok-refuse_at-in-Refused.ensures.refuses.same
+pub enter-returns-in_ok-refuse_at-in-Refused-clause-runs : goal.enter-returns-in_ok-refuse_at-in-Refused-clause-runs
+enter-returns-in_ok-refuse_at-in-Refused-clause-runs g t c = ap (λ (v : Walk). v.runs) c.in_ok-refuse_at-in-Refused.ensures.refuses.same
 
 pub enter-returns-in_ok-refuse_at-in-Refused-clause-read : goal.enter-returns-in_ok-refuse_at-in-Refused-clause-read
 enter-returns-in_ok-refuse_at-in-Refused-clause-read g t c = contents-stay c.args.contents.now
@@ -293,7 +293,7 @@ include_line-loop-part-init g t c =
           (ready-moved closed.names closed.closes.simulates closed.closes.held c.requires.ready).read closed.closes.held.list found.keeps found.names found.files found.read found.finds found.list found.paths;
       kept = found.kept;
       counted = found.counted;
-      gathers = gathers-then [] c.args.line.now c.args.self.now c.close_runs.new.self c.included.new.self closed.closes.gathers (gathers-same c.args.line.now c.close_runs.new.self c.included.new.self found.gathered);
+      gathers = gathers-then [] c.args.line.now c.args.self.now c.close_runs.new.self c.included.new.self closed.closes.gathers (gathers-same c.args.line.now c.close_runs.new.self c.included.new.self found.runs);
     }
 
 pub walk_lines-take_line-requires : goal.walk_lines-take_line-requires
@@ -428,7 +428,7 @@ include_line-loop-part-preserved g t c =
           entered.plain entered.paths;
       kept = entered.kept ∙ inv.kept;
       counted = omega (arith, inv.counted, entered.counted);
-      gathers = λ rest apart. subst (λ list. StandApart (tokens_in list ++ rest)) (sym entered.gathered) (inv.gathers rest apart);
+      gathers = λ rest apart. gathers-same [] c.loop-part.self c.enter.new.self entered.runs rest (inv.gathers rest apart);
     }
 
 pub include_line-returns-clause-takes : goal.include_line-returns-clause-takes
@@ -557,7 +557,7 @@ include_line-returns-in_err-parts-clause-footprints g t c = λ x context told ap
     carried-stops c.args.space.now.limits.branches c.from_residual-in_err-parts.result c.args.space.now.standard c.args.names.now c.args.files.now (g.C.Conditions.sets c.args.conds.now) c.args.self.now
     (IsIn c.args.files.now c.args.entry) x line kind.Include (sym c.requires.directive) refl
     closed.names (λ k d h. (c.requires.placed k d h).held) closed.keeps closed.closes.simulates
-    (λ d directed says. let stops = c.in_err-parts.ensures.footprints d directed says (apart-right (tokens_in c.args.self.now.gathered) line apart) in search (rules, stops))
+    (λ d directed says. let stops = c.in_err-parts.ensures.footprints d directed says (apart-right (tokens_read c.args.self.now.runs.read) line apart) in search (rules, stops))
 
 pub include_line-returns-in_err-enter-clause-footprints : goal.include_line-returns-in_err-enter-clause-footprints
 include_line-returns-in_err-enter-clause-footprints g t c = λ x context told apart.
@@ -579,8 +579,9 @@ enter-returns-in_err-walk_lines-in-Lines-clause-footprints g t c = λ x context 
     let begins = c.in_ok-around-in-Lines.ensures in
     let named = content-named ready.read c.args.entry.file.0 c.requires.content in
     let has = kept-lines c.args.entry.file.0 _ (ready.read.told x.files told) named c.requires.content c.in-Lines.is in
-    let stops = c.in_err-walk_lines-in-Lines.ensures.footprints x context told (ap (λ (v : Walk). v.gathered) begins.is) (lines-apart has.are) in
+    let stops = c.in_err-walk_lines-in-Lines.ensures.footprints x context told begins.read (lines-apart has.are) in
+    let p = err_from_is_err_and c.from_residual-in_err-walk_lines-in-Lines.result c.from_residual-in_err-walk_lines-in-Lines.ensures.1 in
     answer-stops (λ at. at) _ c.args.space.now.limits.branches c.from_residual-in_err-walk_lines-in-Lines.result keeps.arities
     (comes-inside c.args.files.now c.args.cond c.args.entry keeps
     c.in_ok-inside.ensures.entering
-    ready.owns ready.table begins x context.standard c.in-Lines.file named has) (search (rules, stops))
+    ready.owns ready.table begins x context.standard c.in-Lines.file named has) (rw (p.1, p.2) stops)

@@ -1,6 +1,6 @@
 use Rattle.std.proofs.Common.{◌+◌, ◌++◌, ◌-◌, ◌*◌, ◌≡◌, ◌≤◌, [], All, drop, length, take, true}
 use Rattle.sc_prep.proofs.Going.{Gone, Staged}
-use Rattle.sc_prep.proofs.Terms.{ArePartsOf, GathersFrom, IsAtTop, IsIn, IsReady, Runs, StandApart, files_at, is_plain, seen_line, seen_lines, seen_space, tokens_in}
+use Rattle.sc_prep.proofs.Terms.{ArePartsOf, GathersFrom, IsAtTop, IsIn, IsReady, Runs, StandApart, files_at, is_plain, seen_line, seen_lines, seen_space, tokens_read}
 use Rattle.sc_prep.proofs.WalkStops.{to_come}
 use Rattle.sc_prep.proofs.walk.Walk.+files.Given as goal
 
@@ -24,7 +24,7 @@ invariant-walk_lines-loop-number g l = record {
   ready : IsReady l.space.standard (g.C.Conditions.sets l.conds) l.names l.files (g.S.Source.holds l.src) l.self l.contents;
   gone : Gone (seen_space l.space) (g.C.Conditions.sets l.fn.conds) l.fn.names l.fn.files l.fn.self l.fn.contents (g.C.Conditions.sets l.conds) l.names l.files l.self l.contents (Unit {0})
       (IsAtTop l.fn.files l.entry) (λ x config m n. Runs x m (take l.number (seen_lines l.space.standard l.fn.names l.fn.files l.file.tokens.items)) n);
-  apart : l.fn.self.gathered ≡ [] → StandApart l.file.tokens.items → StandApart (tokens_in l.self.gathered ++ to_come l.file l.number);
+  apart : l.fn.self.runs.read ≡ [] → StandApart l.file.tokens.items → StandApart (tokens_read l.self.runs.read ++ to_come l.file l.number);
   kept : g.S.Source.holds l.src ≡ g.S.Source.holds l.fn.src;
   counted : g.S.Source.faults l.fn.src ≤ g.S.Source.faults l.src;
 }

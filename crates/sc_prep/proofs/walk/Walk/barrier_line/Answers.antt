@@ -1,13 +1,13 @@
 use Rattle.std.proofs.Common.{◌∙◌, ◌++◌, All, refl, sym, ap, subst, Some, length, rules, []}
 use Rattle.c11_directives.specs.declared.directive.Directive.TheVariants as kind
 use Rattle.sc_prep.proofs.ApartLemmas.{apart-left, apart-right, gathers-same, gathers-then}
-use Rattle.sc_prep.proofs.CloseMoves.{placed-grown, plain-grown}
+use Rattle.sc_prep.proofs.Grown.{placed-grown, plain-grown}
 use Rattle.sc_prep.proofs.DirectiveStops.{carried-stops, closing-stops}
 use Rattle.sc_prep.proofs.Facts.{Extends-trans, IfErr-weaker, Keeps-trans, on_ok_weaker}
 use Rattle.sc_prep.proofs.LineSteps.{directive-long}
 use Rattle.sc_prep.proofs.Stages.{no-memory, ok-three, stage-stops}
 use Rattle.sc_prep.proofs.TakeLine.{barrier-unconditional, stays-plain, takes-carried, takes-closed, unsaid}
-use Rattle.sc_prep.proofs.Terms.{AllPass, ComesAt, IsPlaced, MomentsHave, StopsBy, any_machine, any_token, is_plain, seen_line, tokens_in}
+use Rattle.sc_prep.proofs.Terms.{AllPass, ComesAt, IsPlaced, MomentsHave, StopsBy, any_machine, any_token, is_plain, seen_line, tokens_read}
 use Rattle.sc_prep.proofs.walk.Walk.barrier_line.Goals as goal
 
 pub number_line-requires-clause-placed : goal.number_line-requires-clause-placed
@@ -39,20 +39,20 @@ returns-in-Line-clause-takes g c = on_ok_weaker c.number_line.result (λ carries
       plain = λ plain was. subst (AllPass (is_plain c.number_line.new.names)) (sym stage.text.list)
           (plain-grown c.number_line.ensures.names (length c.args.files.now) c.close_runs.new.self.prepared.list closed.held.list (closed.plain plain was));
       gathers = gathers-then [] line c.args.self.now c.close_runs.new.self c.number_line.new.self closed.gathers
-          (gathers-same line c.close_runs.new.self c.number_line.new.self stage.text.gathered);
+          (gathers-same line c.close_runs.new.self c.number_line.new.self stage.text.runs);
     }) c.number_line.ensures.carries
 
 pub returns-in-Line-clause-stops : goal.returns-in-Line-clause-stops
 returns-in-Line-clause-stops g c = λ x.
     let first = c.in_ok-close_runs.ensures in
     let line = c.args.line.now in
-    stage-stops (g.C.Conditions.sets c.args.conds.now) c.args.names.now c.args.files.now c.args.self.now (tokens_in c.args.self.now.gathered ++ line)
+    stage-stops (g.C.Conditions.sets c.args.conds.now) c.args.names.now c.args.files.now c.args.self.now (tokens_read c.args.self.now.runs.read ++ line)
     (λ config m. MomentsHave (ComesAt x m (seen_line c.args.standard c.args.names.now c.args.files.now line))) c.args.limit c.number_line.result
     (IfErr-weaker c.number_line.result _ _ (λ stop stops. subst (λ arities. StopsBy arities c.args.limit stop) first.keeps.arities stops.by) c.number_line.ensures.stops)
     (λ apart.
     carried-stops c.args.limit c.number_line.result c.args.standard c.args.names.now c.args.files.now (g.C.Conditions.sets c.args.conds.now) c.args.self.now any_machine x line kind.Line (ap Some (sym c.in-Line.is) ∙ c.requires.directive) refl first.names
     (λ k d h. (c.requires.placed k d h).held) first.keeps first.closes.simulates
-    (λ d directed says. IfErr-weaker c.number_line.result _ _ (λ stop stops. stops.at_place c.args.standard d directed says (apart-right (tokens_in c.args.self.now.gathered) line apart)) c.number_line.ensures.stops))
+    (λ d directed says. IfErr-weaker c.number_line.result _ _ (λ stop stops. stops.at_place c.args.standard d directed says (apart-right (tokens_read c.args.self.now.runs.read) line apart)) c.number_line.ensures.stops))
 
 pub returns-in-Line-clause-keeps : goal.returns-in-Line-clause-keeps
 returns-in-Line-clause-keeps g c = Keeps-trans c.in_ok-close_runs.ensures.keeps c.number_line.ensures.keeps
@@ -88,9 +88,9 @@ pub returns-in_err-close_runs-clause-stops : goal.returns-in_err-close_runs-clau
 returns-in_err-close_runs-clause-stops g c = λ x.
     let line = c.args.line.now in
     let stops = c.in_err-close_runs.ensures.stops in
-    stage-stops (g.C.Conditions.sets c.args.conds.now) c.args.names.now c.args.files.now c.args.self.now (tokens_in c.args.self.now.gathered ++ line)
+    stage-stops (g.C.Conditions.sets c.args.conds.now) c.args.names.now c.args.files.now c.args.self.now (tokens_read c.args.self.now.runs.read ++ line)
     (λ config m. MomentsHave (ComesAt x m (seen_line c.args.standard c.args.names.now c.args.files.now line))) c.args.limit c.from_residual.result (let by = stops.by in search (rules, by))
     (λ apart.
-    let at_place = stops.at_place (apart-left (tokens_in c.args.self.now.gathered) line apart) in
+    let at_place = stops.at_place (apart-left (tokens_read c.args.self.now.runs.read) line apart) in
     closing-stops c.args.limit c.from_residual.result c.args.standard c.args.names.now c.args.files.now (g.C.Conditions.sets c.args.conds.now) c.args.self.now any_machine x line c.args.directive c.requires.directive c.requires.barrier.0
     (search (rules, at_place)))

@@ -22,7 +22,7 @@ returns-in_ok-begin_branch-in-Else-clause-decides g c = λ x.
       text = record {
         held = begins.printable c.args.names.now c.args.line.now (length c.args.files.now) any_token c.requires.placed c.requires.stored.held;
         list = begins.list;
-        gathered = begins.gathered;
+        runs = begins.runs;
       };
     }
 
@@ -35,6 +35,6 @@ returns-in_ok-end_section-in-Endif-clause-decides g c = λ x.
       text = record {
         held = ends.printable c.args.names.now c.args.line.now (length c.args.files.now) any_token c.requires.placed c.requires.stored.held;
         list = ends.list;
-        gathered = ends.gathered;
+        runs = ends.runs;
       };
     }

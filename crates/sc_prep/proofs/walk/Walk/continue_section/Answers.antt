@@ -27,7 +27,7 @@ returns-clause-decides g c = λ x.
           (λ config m simulates. c.untaken-untaken.ensures.at (g.C.Conditions.sets c.args.conds.now) c.args.names.now c.args.files.now config m simulates) was.simulates
           (begins.moved names _ (Denotes-self (g.C.Conditions.sets c.decide_test.new.conds) c.in_ok-taken.taken.0 decides.own));
       text = text-then c.args.self.now c.decide_test.new.self c.begin_branch.new.self was.text
-          (begins.printable names [] count any_token (All-nil (IsPlaced names count)) was.text.held) begins.list begins.gathered;
+          (begins.printable names [] count any_token (All-nil (IsPlaced names count)) was.text.held) begins.list begins.runs;
     }
 
 pub returns-in_err-begin_branch-clause-keeps : goal.returns-in_err-begin_branch-clause-keeps

@@ -85,7 +85,7 @@ returns-then-is_never-clause-decides g c =
         simulates = decides-none c.args.files.now c.args.names.now k1 w c.requires.stored.owns c.requires.stored.table c.args.among c.in_ok-live.live live x
             (seen_line c.args.standard c.args.names.now c.args.files.now c.args.line.now) c.never.result
             (λ config listed. (c.is_never.ensures.0 c.if-is_never.true).none config (IsConfig-Keeps k1 listed)) (λ config listed. c.never.ensures.meaning.at config (IsConfig-Keeps k1 listed));
-        text = record { held = c.requires.stored.held; list = refl; gathered = refl };
+        text = record { held = c.requires.stored.held; list = refl; runs = refl };
       };
     }
 
@@ -124,7 +124,7 @@ returns g c =
               simulates = decides-by files names k1 w stored.owns stored.table among c.in_ok-live.live live x l a.keeps b.keeps e.keeps c.in_ok-live.ensures.own
                   hash c.requires.line (hash-line c.args.standard names files line no_token (asking-long c.args.standard names files line c.requires.line)) text left (s3.has taken.0) replaces second.simulates third.simulates;
               text = text-then w c.expanded.new.self c.evaluated.new.self
-                  (text-then w c.replaced.new.self c.expanded.new.self first.text second.text.held second.text.list second.text.gathered) third.text.held third.text.list third.text.gathered;
+                  (text-then w c.replaced.new.self c.expanded.new.self first.text second.text.held second.text.list second.text.runs) third.text.held third.text.list third.text.runs;
             };
           }) e.evaluates;
       stops = IfErr-weaker c.evaluated.result _ _ (λ stop stops. record {

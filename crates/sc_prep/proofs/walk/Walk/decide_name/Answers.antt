@@ -35,7 +35,7 @@ returns-then-is_never-clause-decides g c = λ standard files asks placed held.
       at = λ x. record {
         simulates = decides-none files c.args.names.now k1 w c.requires.owns c.requires.table c.args.among c.in_ok-live.live live x (seen_line standard c.args.names.now files c.args.line.now) c.never.result
             (λ config listed. (c.is_never.ensures.0 c.if-is_never.true).none config (IsConfig-Keeps k1 listed)) (λ config listed. c.never.ensures.meaning.at config (IsConfig-Keeps k1 listed));
-        text = record { held = held; list = refl; gathered = refl };
+        text = record { held = held; list = refl; runs = refl };
       };
     }
 
@@ -89,6 +89,6 @@ returns-in_ok-apply_and-in-Some-clause-decides g c = λ standard files asks plac
             c.requires.table c.in_ok-apply_and-in-Some.field-0 taken
             (same-macros names (Keeps-trans k12 k3) w c.requires.owns table (IsTable-Keeps k3 c.in_ok-found-in-Some.ensures.table) (still-after w.table table k12 k3 c.in_ok-found-in-Some.ensures.table
             (λ config name listed. c.in_ok-found-in-Some.ensures.still config name (IsConfig-Keeps k1 listed) ∙ macros_at-Keeps k1 c.requires.table config name listed)));
-        text = record { held = held; list = refl; gathered = refl };
+        text = record { held = held; list = refl; runs = refl };
       };
     }

@@ -4,7 +4,8 @@ use Rattle.sc_prep.proofs.ExpressionMoves.{empty_context}
 use Rattle.sc_prep.proofs.Facts.{All-weaker, Extends-refl, Extends-trans, IfErr-weaker, IsTable-Extends, IsTable-Keeps, Keeps-trans}
 use Rattle.sc_prep.proofs.IncludeLeads.{parts-later}
 use Rattle.sc_prep.proofs.LeadMoves.{contents-stay, limit-stops, stored-ready}
-use Rattle.sc_prep.proofs.NamedFiles.{deep-leads, found-leads, has-hash, held-later, reading-stops, sound-plain}
+use Rattle.sc_prep.proofs.Grown.{held-later}
+use Rattle.sc_prep.proofs.NamedFiles.{deep-leads, found-leads, has-hash, reading-stops, sound-plain}
 use Rattle.sc_prep.proofs.Stopping.{reading-stops-nowhere}
 use Rattle.sc_prep.proofs.Terms.{AreFound, ArePlainNames, ArePlainPaths, C11, Finds, IsCond, IsIn, IsPlaced, Leads, Named, Part, ReadsNothing, Stops, StopsAtPlace, any_token, files_at, seen_line, text_at}
 use Rattle.sc_prep.proofs.WalkMoves.{owns-kept}
@@ -64,8 +65,8 @@ returns-then-entry-space-clause-ready g c =
 pub returns-then-entry-space-clause-list : goal.returns-then-entry-space-clause-list
 returns-then-entry-space-clause-list g c = c.in_ok-refuse_all.ensures.list ∙ (c.in_ok-named.ensures.named.at C11 empty_context).text.list
 
-pub returns-then-entry-space-clause-gathered : goal.returns-then-entry-space-clause-gathered
-returns-then-entry-space-clause-gathered g c = c.in_ok-refuse_all.ensures.gathered ∙ (c.in_ok-named.ensures.named.at C11 empty_context).text.gathered
+pub returns-then-entry-space-clause-runs : goal.returns-then-entry-space-clause-runs
+returns-then-entry-space-clause-runs g c = c.in_ok-refuse_all.ensures.runs ∙ (c.in_ok-named.ensures.named.at C11 empty_context).text.runs
 
 pub returns-then-entry-space-clause-paths : goal.returns-then-entry-space-clause-paths
 returns-then-entry-space-clause-paths g c = λ sound plain paths each. paths
@@ -162,8 +163,8 @@ returns-clause-ready g c =
 pub returns-clause-list : goal.returns-clause-list
 returns-clause-list g c = c.in_ok-refuse_acting.ensures.list ∙ (c.in_ok-named.ensures.named.at C11 empty_context).text.list
 
-pub returns-clause-gathered : goal.returns-clause-gathered
-returns-clause-gathered g c = c.in_ok-refuse_acting.ensures.gathered ∙ (c.in_ok-named.ensures.named.at C11 empty_context).text.gathered
+pub returns-clause-runs : goal.returns-clause-runs
+returns-clause-runs g c = c.in_ok-refuse_acting.ensures.runs ∙ (c.in_ok-named.ensures.named.at C11 empty_context).text.runs
 
 pub returns-clause-paths : goal.returns-clause-paths
 returns-clause-paths g c = λ sound plain paths each.

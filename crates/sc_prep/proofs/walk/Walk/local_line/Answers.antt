@@ -1,9 +1,9 @@
 use Rattle.std.proofs.Common.{◌∙◌, sym, subst, length}
 use Rattle.sc_prep.proofs.ApartLemmas.{apart-right, gathers-same}
-use Rattle.sc_prep.proofs.CloseMoves.{plain-grown}
+use Rattle.sc_prep.proofs.Grown.{plain-grown}
 use Rattle.sc_prep.proofs.Facts.{IfErr-weaker, on_ok_weaker}
 use Rattle.sc_prep.proofs.TakeLine.{conditional-found, takes-decided}
-use Rattle.sc_prep.proofs.Terms.{AllPass, is_plain, tokens_in}
+use Rattle.sc_prep.proofs.Terms.{AllPass, is_plain, tokens_read}
 use Rattle.sc_prep.proofs.walk.Walk.local_line.Goals as goal
 
 pub conditional_line-requires-clause-directive : goal.conditional_line-requires-clause-directive
@@ -23,12 +23,12 @@ returns-in-Some-clause-takes g c = on_ok_weaker c.conditional_line.result (λ de
       held = stage.text.held;
       plain = λ plain was. subst (AllPass (is_plain c.conditional_line.new.names)) (sym stage.text.list)
           (plain-grown c.conditional_line.ensures.names (length c.args.files.now) w.prepared.list c.requires.stored.held.list was);
-      gathers = gathers-same c.args.tokens.now w next stage.text.gathered;
+      gathers = gathers-same c.args.tokens.now w next stage.text.runs;
     }) c.conditional_line.ensures.decides
 
 pub returns-in-Some-clause-stops : goal.returns-in-Some-clause-stops
 returns-in-Some-clause-stops g c = λ x.
     IfErr-weaker c.conditional_line.result _ _ (λ stop stops. record {
       by = stops.by;
-      at_place = λ apart. stops.at_place (apart-right (tokens_in c.args.self.now.gathered) c.args.tokens.now apart);
+      at_place = λ apart. stops.at_place (apart-right (tokens_read c.args.self.now.runs.read) c.args.tokens.now apart);
     }) (c.conditional_line.ensures.stops x)

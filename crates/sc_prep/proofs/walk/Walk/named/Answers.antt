@@ -1,5 +1,5 @@
 use Rattle.std.proofs.Common.{◌≡◌, ◌+◌, List, length, sym, subst, true, rules}
-use Rattle.sc_prep.proofs.CloseMoves.{placed-grown}
+use Rattle.sc_prep.proofs.Grown.{placed-grown}
 use Rattle.sc_prep.proofs.DirectiveStops.{lists-stop}
 use Rattle.sc_prep.proofs.Facts.{Keeps-trans}
 use Rattle.sc_prep.proofs.NamedFiles.{each-passes, has-hash, names-leads, said-each}
@@ -28,7 +28,7 @@ returns-clause-named g c =
             simulates = names-leads standard x line hash.0 found.named.items found.unnamed c.in_ok-list.list c.in_ok-alternatives.alternatives.items list.keeps c.in_ok-alternatives.ensures.keeps c.in_ok-headers.ensures.keeps
                 refuse.keeps list.names (λ k d h. (c.requires.placed k d h).held) hash.1 headers.owns.named said.simulates c.in_ok-alternatives.ensures.at (headers.at files) (refuse.moved standard texts);
             text = text-then c.args.self.now c.said.new.self c.refuse_acting.new.self said.text
-                (refuse.printable texts (length files) any_token (λ k d h. placed-grown list.names (length files) _ (c.requires.placed k d h)) said.text.held) refuse.list refuse.gathered;
+                (refuse.printable texts (length files) any_token (λ k d h. placed-grown list.names (length files) _ (c.requires.placed k d h)) said.text.held) refuse.list refuse.runs;
           };
     }
 

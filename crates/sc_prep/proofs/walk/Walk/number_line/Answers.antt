@@ -1,5 +1,5 @@
 use Rattle.std.proofs.Common.{◌+◌, not, Bool, false, List, [], get_or, length, map, sym, subst, rules}
-use Rattle.sc_prep.proofs.CloseMoves.{placed-grown}
+use Rattle.sc_prep.proofs.Grown.{placed-grown}
 use Rattle.sc_prep.proofs.DirectiveStops.{lists-stop}
 use Rattle.sc_prep.proofs.ExpressionSteps.{hash-line}
 use Rattle.sc_prep.proofs.Facts.{Keeps-trans}
@@ -75,5 +75,5 @@ returns-clause-carries g c = λ standard x.
           said.simulates c.in_ok-parts.parts.items c.in_ok-parts.ensures.at c.refuse.new.self c.in_ok-others.others.0 wrong (refuse.moved standard more)
           (line-grown files list.names standard line (λ k d h. (c.requires.placed k d h).held)) (seen names files (get_or line 0 no_token)) (hash-line standard names files line no_token c.requires.line) x;
       text = text-then c.args.self.now c.said.new.self c.refuse.new.self said.text
-          (refuse.printable more (length files) any_token (λ k d h. placed-grown list.names (length files) _ (c.requires.placed k d h)) said.text.held) refuse.list refuse.gathered;
+          (refuse.printable more (length files) any_token (λ k d h. placed-grown list.names (length files) _ (c.requires.placed k d h)) said.text.held) refuse.list refuse.runs;
     }

@@ -23,7 +23,7 @@ returns-clause-decides g c = λ x.
       simulates = section-opened c.args.files.now x (seen_line c.args.standard c.args.names.now c.args.files.now c.args.line.now) c.requires.line c.in_ok-taken.ensures.keeps c.in_ok-taken.taken was.simulates
           (begins.opened names _ (Denotes-self (g.C.Conditions.sets c.decide_test.new.conds) c.in_ok-taken.taken.0 decides.own));
       text = text-then c.args.self.now c.decide_test.new.self c.begin_section.new.self was.text
-          (begins.printable names [] count any_token (All-nil (IsPlaced names count)) was.text.held) begins.list begins.gathered;
+          (begins.printable names [] count any_token (All-nil (IsPlaced names count)) was.text.held) begins.list begins.runs;
     }
 
 pub returns-in_err-begin_section-clause-keeps : goal.returns-in_err-begin_section-clause-keeps

@@ -36,16 +36,16 @@ pub returns-in_default-clause-moved : goal.returns-in_default-clause-moved
 returns-in_default-clause-moved g c = on_ok_weaker c.other_line.result (λ moved. between-runs (moved c.args.standard c.args.names.now)) c.other_line.ensures.moved
 
 pub returns-in-Define-clause-gathers : goal.returns-in-Define-clause-gathers
-returns-in-Define-clause-gathers g c = on_ok_weaker c.define.result (gathers-same c.args.line.now c.args.self.now c.define.new.self) c.define.ensures.gathered
+returns-in-Define-clause-gathers g c = on_ok_weaker c.define.result (gathers-same c.args.line.now c.args.self.now c.define.new.self) c.define.ensures.runs
 
 pub returns-in-Undef-clause-gathers : goal.returns-in-Undef-clause-gathers
-returns-in-Undef-clause-gathers g c = on_ok_weaker c.undef.result (gathers-same c.args.line.now c.args.self.now c.undef.new.self) c.undef.ensures.gathered
+returns-in-Undef-clause-gathers g c = on_ok_weaker c.undef.result (gathers-same c.args.line.now c.args.self.now c.undef.new.self) c.undef.ensures.runs
 
 pub returns-in_ok-pragma-in-Pragma-clause-gathers : goal.returns-in_ok-pragma-in-Pragma-clause-gathers
-returns-in_ok-pragma-in-Pragma-clause-gathers g c = gathers-same c.args.line.now c.args.self.now c.pragma.new.self c.in_ok-pragma-in-Pragma.ensures.gathered
+returns-in_ok-pragma-in-Pragma-clause-gathers g c = gathers-same c.args.line.now c.args.self.now c.pragma.new.self c.in_ok-pragma-in-Pragma.ensures.runs
 
 pub returns-in_default-clause-gathers : goal.returns-in_default-clause-gathers
-returns-in_default-clause-gathers g c = on_ok_weaker c.other_line.result (gathers-same c.args.line.now c.args.self.now c.other_line.new.self) c.other_line.ensures.gathered
+returns-in_default-clause-gathers g c = on_ok_weaker c.other_line.result (gathers-same c.args.line.now c.args.self.now c.other_line.new.self) c.other_line.ensures.runs
 
 pub returns-in-Undef-clause-printable : goal.returns-in-Undef-clause-printable
 returns-in-Undef-clause-printable g c = on_ok_weaker c.undef.result (λ printable. printable c.args.names.now) c.undef.ensures.printable

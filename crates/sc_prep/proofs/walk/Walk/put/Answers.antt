@@ -1,27 +1,29 @@
-use Rattle.std.proofs.Common.{refl, ◌≡◌, ◌∙◌, ◌++◌, sym, ap, subst, length, take, arith}
+use Rattle.std.proofs.Common.{refl, ◌≡◌, ◌∙◌, sym, ap, subst, length, take, arith}
 use Rattle.sc_prep.proofs.ApartLemmas.{gathers-line, gathers-same}
-use Rattle.sc_prep.proofs.Facts.{take-length, under}
-use Rattle.sc_prep.proofs.Held.{gathered-held}
-use Rattle.sc_prep.proofs.Terms.{AreHeld, IsHeldWalk, SimulatesStep, Walk, acting, seen_line, with_text}
-use Rattle.sc_prep.proofs.WalkMoves.{puts, puts-none}
+use Rattle.sc_prep.proofs.Facts.{take-length}
+use Rattle.sc_prep.proofs.Held.{read-held}
+use Rattle.sc_prep.proofs.Terms.{GathersFrom, IsHeldWalk, SimulatesStep, Walk, acting, seen_line, with_text}
+use Rattle.sc_prep.proofs.Texts.{read-more}
+use Rattle.sc_prep.proofs.WalkMoves.{puts, puts-none, read-walk}
 use Rattle.sc_prep.proofs.walk.Walk.put.Goals as goal
 
 pub returns-clause-moved : goal.returns-clause-moved
 returns-clause-moved g c = λ standard names.
     let s = g.C.Conditions.sets c.args.conds.now in
     let w = c.args.self.now in
-    let whole : c.loop-token.token-index ≡ length c.args.line.now = omega arith in
-    let all = ap (λ n. w.gathered ++ under w.acting (take n c.args.line.now)) whole ∙ ap (λ ts. w.gathered ++ under w.acting ts) (take-length c.args.line.now) in
-    subst (λ next. SimulatesStep names s w s next (λ files config m. acting m (λ state. with_text state (seen_line standard names files c.args.line.now)))) (sym c.loop-token.invariant)
-    (puts standard names s w c.requires c.args.line.now (w.gathered ++ under w.acting (take c.loop-token.token-index c.args.line.now)) all)
+    let line = c.args.line.now in
+    let whole : c.loop-token.token-index ≡ length line = omega arith in
+    let is = c.loop-token.invariant ∙ ap (read-walk w c.empty-hide.result) (ap (λ n. take n line) whole ∙ take-length line) in
+    subst (λ next. SimulatesStep names s w s next (λ files config m. acting m (λ state. with_text state (seen_line standard names files line)))) (sym is)
+    (puts standard names s w c.requires c.empty-hide.result c.empty-hide.ensures.none line)
 
 pub returns-clause-printable : goal.returns-clause-printable
 returns-clause-printable g c = λ names files test all old.
     let w = c.args.self.now in
-    let whole : c.loop-token.token-index ≡ length c.args.line.now = omega arith in
-    let taken = ap (λ n. take n c.args.line.now) whole ∙ take-length c.args.line.now in
-    subst (λ (next : Walk). IsHeldWalk names files test next) (sym c.loop-token.invariant)
-    (subst (λ ts. AreHeld names files test (w.gathered ++ under w.acting ts) w.once.items w.prepared) (sym taken) (gathered-held names files test w c.args.line.now all old))
+    let line = c.args.line.now in
+    let whole : c.loop-token.token-index ≡ length line = omega arith in
+    let is = c.loop-token.invariant ∙ ap (read-walk w c.empty-hide.result) (ap (λ n. take n line) whole ∙ take-length line) in
+    subst (λ (next : Walk). IsHeldWalk names files test next) (sym is) (read-held names files test w c.empty-hide.result c.empty-hide.ensures.own c.empty-hide.ensures.none line all old)
 
 pub returns-then-is_never-clause-moved : goal.returns-then-is_never-clause-moved
 returns-then-is_never-clause-moved g c = λ standard names.
@@ -33,6 +35,7 @@ returns-then-is_never-clause-gathers g c = gathers-same c.args.line.now c.args.s
 pub returns-clause-gathers : goal.returns-clause-gathers
 returns-clause-gathers g c =
     let w = c.args.self.now in
-    let whole : c.loop-token.token-index ≡ length c.args.line.now = omega arith in
-    let taken = ap (λ n. take n c.args.line.now) whole ∙ take-length c.args.line.now in
-    gathers-line c.args.line.now w.acting w c.loop-token.self (ap (λ (next : Walk). next.gathered) c.loop-token.invariant ∙ ap (λ ts. w.gathered ++ under w.acting ts) taken)
+    let line = c.args.line.now in
+    let whole : c.loop-token.token-index ≡ length line = omega arith in
+    let is = c.loop-token.invariant ∙ ap (read-walk w c.empty-hide.result) (ap (λ n. take n line) whole ∙ take-length line) in
+    subst (GathersFrom line w) (sym is) (gathers-line line w (read-walk w c.empty-hide.result line) (read-more w.runs.read w.acting line))

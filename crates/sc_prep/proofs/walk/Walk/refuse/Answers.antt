@@ -31,5 +31,5 @@ returns-then-is_never-clause-moved g c = λ standard names t part.
 pub returns-clause-list : goal.returns-clause-list
 returns-clause-list g c = on_ok_weaker c.refuse_at.result (λ refused. ap (λ (v : Walk). v.prepared.list) refused.same) c.refuse_at.ensures.refuses
 
-pub returns-clause-gathered : goal.returns-clause-gathered
-returns-clause-gathered g c = on_ok_weaker c.refuse_at.result (λ refused. ap (λ (v : Walk). v.gathered) refused.same) c.refuse_at.ensures.refuses
+pub returns-clause-runs : goal.returns-clause-runs
+returns-clause-runs g c = on_ok_weaker c.refuse_at.result (λ refused. ap (λ (v : Walk). v.runs) refused.same) c.refuse_at.ensures.refuses

@@ -28,7 +28,7 @@ returns-then-begins_with_header-clause-says g c =
       placed = list-placed names (length files) w line list same c.requires.placed;
       stage = λ standard. record {
         simulates = stands names files s w line list same standard stored.owns stored.table (header standard);
-        text = record { held = stored.held; list = refl; gathered = refl };
+        text = record { held = stored.held; list = refl; runs = refl };
       };
       lists = λ standard d count directed says apart lists. header-stops names files s w line list same standard d directed says apart (header standard) count lists;
     }

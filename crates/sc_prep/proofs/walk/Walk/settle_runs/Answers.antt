@@ -1,39 +1,89 @@
-use Rattle.std.proofs.Common.{Option, refl, subst}
-use Rattle.sc_prep.proofs.Facts.{Extends-refl, Keeps-trans}
-use Rattle.sc_prep.proofs.SettleMoves.{settled-closes, settled-stage, stage-stored, stays-stage}
-use Rattle.sc_prep.proofs.Terms.{Early, IfSome, SettlesList, macros_at}
+use Rattle.std.proofs.Common.{◌≡◌, ◌∙◌, Ok, rules, ap, inl, map, sym, true}
+use Rattle.sc_expand.specs.Moved.{moved}
+use Rattle.sc_prep.proofs.Facts.{Extends-refl, Extends-trans, IsConfig-kept, Keeps-trans, items_at-Keeps}
+use Rattle.sc_prep.proofs.SettleMoves.{settled-closes, settled-stops, stage-stored, stays-stage, stored-kept}
+use Rattle.sc_prep.proofs.Terms.{NameHas, StopsStage, acts, seen_hidden, seen_place, tokens_read}
 use Rattle.sc_prep.proofs.walk.Walk.settle_runs.Goals as goal
 
-pub returns-then-is_never-clause-stays : goal.returns-then-is_never-clause-stays
-returns-then-is_never-clause-stays g c =
-    stays-stage c.args.files.now c.in_ok-waiting.ensures.keeps (Extends-refl c.args.names.now) c.args.self.now c.requires.stored
-
-pub settled-requires-clause-table : goal.settled-requires-clause-table
-settled-requires-clause-table g c =
-    let keeps = c.in_ok-waiting.ensures.keeps in
-    (stage-stored keeps (stays-stage c.args.files.now keeps (Extends-refl c.args.names.now) c.args.self.now c.requires.stored)).table
-
-pub returns-in_err-append-in-Some-clause-keeps : goal.returns-in_err-append-in-Some-clause-keeps
-returns-in_err-append-in-Some-clause-keeps g c = Keeps-trans c.in_ok-waiting.ensures.keeps c.in_ok-early.ensures.keeps
-
-pub returns-in_ok-append-in-Some-clause-stays : goal.returns-in_ok-append-in-Some-clause-stays
-returns-in_ok-append-in-Some-clause-stays g c =
-    let files = c.args.files.now in
+pub settle_within-requires : goal.settle_within-requires
+settle_within-requires g c =
     let w = c.args.self.now in
-    let keeps = c.in_ok-waiting.ensures.keeps in
-    let first = stays-stage files keeps (Extends-refl c.args.names.now) w c.requires.stored in
-    let mid = g.C.Conditions.sets c.without.new.conds in
-    let settles = subst (λ (o : Option Early). IfSome o (SettlesList files c.args.names.now mid (macros_at mid c.args.names.now w.table) w.gathered w.prepared.live.0 c.settled.new.names
-    (g.C.Conditions.sets c.settled.new.conds))) c.in-Some.is c.in_ok-early.ensures.settles in
-    settled-closes keeps first
-    (settled-stage files c.in_ok-early.ensures.keeps c.in_ok-early.ensures.names w _ c.in-Some.early (stage-stored keeps first) settles refl c.in_ok-append-in-Some.ensures)
+    record { stored = stored-kept c.args.files.now c.in_ok-met.ensures.keeps (Extends-refl c.args.names.now) w (Extends-refl w.runs.sets) c.requires.stored }
 
-pub returns-in_ok-append-in-Some-clause-keeps : goal.returns-in_ok-append-in-Some-clause-keeps
-returns-in_ok-append-in-Some-clause-keeps g c = Keeps-trans c.in_ok-waiting.ensures.keeps c.in_ok-early.ensures.keeps
+pub judge_runs-requires : goal.judge_runs-requires
+judge_runs-requires g c = record { stored = stage-stored c.in_ok-within.ensures.keeps c.in_ok-within.ensures.stays }
 
-pub returns-in-None-clause-stays : goal.returns-in-None-clause-stays
-returns-in-None-clause-stays g c =
-    stays-stage c.args.files.now (Keeps-trans c.in_ok-waiting.ensures.keeps c.in_ok-early.ensures.keeps) c.in_ok-early.ensures.names c.args.self.now c.requires.stored
+pub settle_within-requires-2 : goal.settle_within-requires-2
+settle_within-requires-2 g c =
+    let v = c.settle_within.new.self in
+    let judged = c.in_ok-judge_runs.ensures in
+    record { stored = stored-kept c.args.files.now judged.keeps judged.names v (Extends-refl v.runs.sets) (stage-stored c.in_ok-within.ensures.keeps c.in_ok-within.ensures.stays) }
 
-pub returns-in-None-clause-keeps : goal.returns-in-None-clause-keeps
-returns-in-None-clause-keeps g c = Keeps-trans c.in_ok-waiting.ensures.keeps c.in_ok-early.ensures.keeps
+pub returns-then-not-met-clause-stays : goal.returns-then-not-met-clause-stays
+returns-then-not-met-clause-stays g c =
+    let w = c.args.self.now in
+    stays-stage c.args.files.now c.in_ok-met.ensures.keeps (Extends-refl c.args.names.now) w (Extends-refl w.runs.sets) c.requires.stored
+
+pub returns-then-not-met-clause-ends : goal.returns-then-not-met-clause-ends
+returns-then-not-met-clause-ends g c = λ config now acting.
+    let w = c.args.self.now in
+    let keeps = c.in_ok-met.ensures.keeps in
+    let owns = c.requires.stored.owns in
+    let listed = IsConfig-kept keeps now in
+    let none = c.in_ok-met.ensures.none (ap Ok c.if-not-met.true) config listed (sym (keeps.at w.acting.0 config owns.acting listed) ∙ acting) in
+    inl (ap (λ hs. map (moved (seen_place c.args.files.now)) (map (seen_hidden c.args.names.now w.runs.sets) hs)) (items_at-Keeps w.runs.gathered config keeps owns.runs.gathered listed ∙ none))
+
+pub returns-then-within-clause-stays : goal.returns-then-within-clause-stays
+returns-then-within-clause-stays g c =
+    let w = c.args.self.now in
+    let keeps = c.in_ok-met.ensures.keeps in
+    settled-closes keeps (stays-stage c.args.files.now keeps (Extends-refl c.args.names.now) w (Extends-refl w.runs.sets) c.requires.stored) c.in_ok-within.ensures.stays
+
+pub returns-then-within-clause-ends : goal.returns-then-within-clause-ends
+returns-then-within-clause-ends g c = c.in_ok-within.ensures.ends (ap Ok c.if-within.true)
+
+pub returns-in_err-judge_runs-clause-stops : goal.returns-in_err-judge_runs-clause-stops
+returns-in_err-judge_runs-clause-stops g c =
+    let old = g.C.Conditions.sets c.args.conds.now in
+    let w = c.args.self.now in
+    let keeps = c.in_ok-met.ensures.keeps in
+    let stop = c.in_err-judge_runs.field-0.0 in
+    let first = settled-closes keeps (stays-stage c.args.files.now keeps (Extends-refl c.args.names.now) w (Extends-refl w.runs.sets) c.requires.stored) c.in_ok-within.ensures.stays in
+    let kept : StopsStage old c.args.names.now c.args.files.now w (tokens_read w.runs.read) (λ config m f. (acts m ≡ true) × NameHas m.state.macros m.state.run f) c.args.limit stop =
+    settled-stops (Keeps-trans keeps c.in_ok-within.ensures.keeps) first c.args.limit stop c.in_err-judge_runs.ensures.stops in
+    search rules
+
+pub returns-then-settled-clause-stays : goal.returns-then-settled-clause-stays
+returns-then-settled-clause-stays g c =
+    let w = c.args.self.now in
+    let v = c.settle_within.new.self in
+    let judged = c.in_ok-judge_runs.ensures in
+    let keeps = c.in_ok-met.ensures.keeps in
+    let k2 = c.in_ok-within.ensures.keeps in
+    let first = settled-closes keeps (stays-stage c.args.files.now keeps (Extends-refl c.args.names.now) w (Extends-refl w.runs.sets) c.requires.stored) c.in_ok-within.ensures.stays in
+    let second = settled-closes (Keeps-trans keeps k2) first (stays-stage c.args.files.now judged.keeps judged.names v (Extends-refl v.runs.sets) (stage-stored k2 c.in_ok-within.ensures.stays)) in
+    settled-closes (Keeps-trans keeps (Keeps-trans k2 judged.keeps)) second c.in_ok-settled.ensures.stays
+
+pub returns-then-settled-clause-ends : goal.returns-then-settled-clause-ends
+returns-then-settled-clause-ends g c = c.in_ok-settled.ensures.ends (ap Ok c.if-settled.true)
+
+pub returns-in_err-judge_runs-clause-keeps : goal.returns-in_err-judge_runs-clause-keeps
+returns-in_err-judge_runs-clause-keeps g c = Keeps-trans c.in_ok-met.ensures.keeps (Keeps-trans c.in_ok-within.ensures.keeps c.in_err-judge_runs.ensures.keeps)
+
+pub returns-in_err-settled-clause-keeps : goal.returns-in_err-settled-clause-keeps
+returns-in_err-settled-clause-keeps g c = Keeps-trans c.in_ok-met.ensures.keeps (Keeps-trans c.in_ok-within.ensures.keeps (Keeps-trans c.in_ok-judge_runs.ensures.keeps c.in_err-settled.ensures.keeps))
+
+pub returns-then-settled-clause-keeps : goal.returns-then-settled-clause-keeps
+returns-then-settled-clause-keeps g c = Keeps-trans c.in_ok-met.ensures.keeps (Keeps-trans c.in_ok-within.ensures.keeps (Keeps-trans c.in_ok-judge_runs.ensures.keeps c.in_ok-settled.ensures.keeps))
+
+pub returns-clause-keeps : goal.returns-clause-keeps
+returns-clause-keeps g c = Keeps-trans c.in_ok-met.ensures.keeps (Keeps-trans c.in_ok-within.ensures.keeps (Keeps-trans c.in_ok-judge_runs.ensures.keeps c.in_ok-settled.ensures.keeps))
+
+pub returns-in_err-settled-clause-names : goal.returns-in_err-settled-clause-names
+returns-in_err-settled-clause-names g c = Extends-trans c.in_ok-within.ensures.names (Extends-trans c.in_ok-judge_runs.ensures.names c.in_err-settled.ensures.names)
+
+pub returns-then-settled-clause-names : goal.returns-then-settled-clause-names
+returns-then-settled-clause-names g c = Extends-trans c.in_ok-within.ensures.names (Extends-trans c.in_ok-judge_runs.ensures.names c.in_ok-settled.ensures.names)
+
+pub returns-clause-names : goal.returns-clause-names
+returns-clause-names g c = Extends-trans c.in_ok-within.ensures.names (Extends-trans c.in_ok-judge_runs.ensures.names c.in_ok-settled.ensures.names)
