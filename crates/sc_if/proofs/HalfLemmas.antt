@@ -1,6 +1,6 @@
 -- A line that is read by halves.
-use Rattle.std.proofs.Common.{◌≡◌, ℕ, ◌+◌, ◌<◌, ◌≤◌, ◌&&◌, Bool, true, false, List, [], ◌∷◌, ◌++◌, All, length, map, take, drop, get_or, Option, Some, None, Result, Ok, Err, IfOk, IfErr, refl, sym, ap, subst, ◌∙◌, arith, option_map, append-nil, append_assoc, if◌then◌else◌}
-use Rattle.std.proofs.lemmas.List.{length-append, map-append, take-append-drop, take_more}
+use Rattle.std.proofs.Common.{◌≡◌, ℕ, ◌+◌, ◌<◌, ◌≤◌, ◌&&◌, Bool, true, false, List, [], ◌∷◌, ◌++◌, All, length, map, take, get_or, Option, Some, None, Result, Ok, Err, IfOk, IfErr, refl, sym, ap, subst, ◌∙◌, arith, option_map, append-nil, append_assoc, if◌then◌else◌}
+use Rattle.std.proofs.lemmas.List.{length-append, map-append, take_more}
 use Rattle.std.proofs.lemmas.List.Elements.{All-cons, All-head, All-map, All-nil, All-push, All-tail}
 use Rattle.std.specs.Option.{option_and_then}
 use Rattle.std.specs.Prelude.{IfSome}
@@ -12,14 +12,14 @@ use Rattle.sc_base.specs.declared.token.Token.{Token}
 use Rattle.sc_guarded.proofs.ItemLemmas.{items_at-Keeps, items_at-append, items_at-take, map-one}
 use Rattle.sc_guarded.specs.Items.{items_at}
 use Rattle.sc_hoist.specs.Alike.{AreAlike, IsAlike}
-use Rattle.sc_if.proofs.PutLemmas.{Entry, alike-Keeps, all-parts, none-both, own-Keeps, readings_at-Keeps, readings_at-append, readings_at-cons}
+use Rattle.sc_if.proofs.PutLemmas.{Entry, alike-Keeps, all-parts, none-both, own-Keeps, readings_at-Keeps, readings_at-cons}
 use Rattle.sc_if.proofs.ReadingLemmas.{few-one, run-push}
 use Rattle.sc_if.specs.declared.halves.Way.{Way}
 use Rattle.sc_if.specs.declared.reading.Reading.{Reading}
 use Rattle.sc_if.specs.declared.readings.Readings.{Readings}
 use Rattle.sc_if.specs.declared.symbol.Symbol.{Symbol}
 use Rattle.sc_if.specs.Halves.{AreFollowed, AreJoined, AreReadFrom, AreWays, line_of, read_on, seen_line}
-use Rattle.sc_if.specs.Readings.{AreMoved, AreReadings, IsPut, all_of, moved, read_behind, readings_at, seen_reading, state_in}
+use Rattle.sc_if.specs.Readings.{AreMoved, AreReadings, IsPut, all_of, moved, readings_at, seen_reading, state_in}
 use Rattle.sc_if.specs.Symbols.{seen_symbol, symbol_at}
 use Rattle.sc_model.proofs.SetLemmas.{IsConfig-Keeps, IsConfig-kept, Keeps-refl, Keeps-trans}
 use Rattle.sc_model.specs.Sets.{Sets, IsCond, IsConfig, IsNever, Keeps}

@@ -17,7 +17,7 @@ use sc_base::{Cond, OutOfMemory};
 use sc_presence::Conditions;
 use std::alloc::Global;
 
-/// From so many beginnings a part of a line is read at most.
+/// From so many beginnings a part of a line is read at most, with so much that waits in each.
 const MOST: usize = 16;
 
 /// What reading a part of a line comes to.
@@ -68,7 +68,7 @@ fn read_part<C: Conditions>(
     // at every outcome
     ensures keeps { Keeps (C.sets conds.old) (C.sets conds.new) }
 {
-    if starts.len() > MOST {
+    if !are_small(&starts) {
         return Ok(None);
     }
     match line {
@@ -86,6 +86,16 @@ fn read_part<C: Conditions>(
             join_ways(alloc, conds, &firsts, &seconds)
         }
     }
+}
+
+/// Whether there are few beginnings, and little waits in each, since each is copied.
+fn are_small(starts: &[Reading]) -> bool {
+    for start in starts {
+        if start.depth() > MOST {
+            return false;
+        }
+    }
+    starts.len() <= MOST
 }
 
 /// What reading one element comes to.

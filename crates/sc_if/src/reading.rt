@@ -56,6 +56,11 @@ impl Reading {
         }
     }
 
+    /// How much waits.
+    pub(crate) fn depth(&self) -> usize {
+        self.frames.len()
+    }
+
     pub(crate) fn is_same(&self, other: &Reading) -> bool
         ensures { IsTrue result ↔ (state_in self.now ≡ state_in other.now) }
     {

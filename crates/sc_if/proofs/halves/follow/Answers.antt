@@ -1,4 +1,4 @@
-use Rattle.std.proofs.Common.{◌≡◌, None, get_or, refl, subst, sym}
+use Rattle.std.proofs.Common.{◌≡◌, get_or, refl, subst, sym}
 use Rattle.sc_if.proofs.HalfLemmas.{followed-more, followed-none}
 use Rattle.sc_if.proofs.PutLemmas.{Entry}
 use Rattle.sc_model.proofs.SetLemmas.{Keeps-refl, Keeps-trans}

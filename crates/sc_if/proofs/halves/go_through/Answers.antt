@@ -1,4 +1,4 @@
-use Rattle.std.proofs.Common.{◌≡◌, [], ◌∙◌, All, List, Some, ap, get_or, subst, sym, take, arith}
+use Rattle.std.proofs.Common.{◌≡◌, [], ◌∙◌, All, List, Some, ap, get_or, subst, sym, arith}
 use Rattle.std.proofs.lemmas.List.{take_all}
 use Rattle.std.proofs.lemmas.List.Elements.{All-nil}
 use Rattle.sc_if.proofs.HalfLemmas.{added-none, added-some, joined-more, joined-none}

@@ -1,7 +1,7 @@
 use Rattle.std.proofs.Common.{[], All, List, Option, Vec, Global, subst, sym}
 use Rattle.std.specs.Prelude.{IfSome}
 use Rattle.c11_expressions.proofs.Reader.{wanting}
-use Rattle.sc_if.proofs.HalfLemmas.{found-weaker, halves-read, read-Keeps, unread-from}
+use Rattle.sc_if.proofs.HalfLemmas.{found-weaker, halves-read, unread-from}
 use Rattle.sc_if.proofs.PutLemmas.{Entry}
 use Rattle.sc_if.specs.declared.halves.Way.{Way}
 use Rattle.sc_if.specs.Halves.{AreReadFrom, AreWays, OwnWays}

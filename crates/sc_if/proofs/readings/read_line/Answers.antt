@@ -1,11 +1,10 @@
-use Rattle.std.proofs.Common.{◌≡◌, [], ◌∙◌, All, List, Option, Vec, Global, ap, subst, sym}
+use Rattle.std.proofs.Common.{[], ◌∙◌, All, List, Option, Vec, Global, subst, sym}
 use Rattle.std.specs.Prelude.{IfSome}
 use Rattle.c11_expressions.proofs.Reader.{wanting}
-use Rattle.sc_base.specs.declared.id.Cond.{Cond}
 use Rattle.sc_if.proofs.HalfLemmas.{Element, err-weaker, line-conditions, line-read, ok-weaker, readings-before}
 use Rattle.sc_if.proofs.LineAnswers.{refuses-before}
 use Rattle.sc_if.proofs.PutLemmas.{Entry}
-use Rattle.sc_if.specs.Halves.{AreReadFrom, line_of, seen_line}
+use Rattle.sc_if.specs.Halves.{AreReadFrom}
 use Rattle.sc_model.proofs.SetLemmas.{Keeps-refl, Keeps-trans}
 use Rattle.sc_model.specs.Sets.{IsCond, Keeps}
 use Rattle.sc_if.proofs.readings.read_line.Goals.{then-len-gt-SHORT+in_ok-line+in_ok-readings+in_default, else-len-gt-SHORT}
