@@ -26,6 +26,7 @@ CAUSES = (
     "BadStringize",
     "BadToken",
     "Syntax",
+    "BadPragma",
 )
 
 

@@ -48,6 +48,7 @@ on_paste H P cause.BadPaste other o = (refl, o)
 on_paste H P cause.BadStringize other o = absurd (other refl)
 on_paste H P cause.BadToken other o = absurd o
 on_paste H P cause.Syntax other o = absurd o
+on_paste H P cause.BadPragma other o = absurd o
 
 pub in_none : {A P : Type 0} (r : Option A) → r ≡ None → IfNone r P → P
 in_none {A} {P} r is h = subst (λ r. IfNone r P) is h

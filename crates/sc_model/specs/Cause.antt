@@ -1,7 +1,7 @@
 -- The causes of faults: their codes and names as they are printed.
 use Rattle.std.specs.Prelude.{ℕ, List, codes}
 use Rattle.sc_model.specs.declared.cause.Cause.{Cause}
-use Rattle.sc_model.specs.declared.cause.Cause.TheVariants.{NotFound, FileTooLarge, UnterminatedComment, BadNesting, BadDirective, BadDefine, Redefined, ProtectedName, BadIf, IfDivision, IfOverflow, IfShift, DefinedFromMacro, BadInclude, IncludeDepth, ErrorDirective, UnterminatedCall, WrongArguments, BadPaste, BadStringize, BadToken, Syntax}
+use Rattle.sc_model.specs.declared.cause.Cause.TheVariants.{NotFound, FileTooLarge, UnterminatedComment, BadNesting, BadDirective, BadDefine, Redefined, ProtectedName, BadIf, IfDivision, IfOverflow, IfShift, DefinedFromMacro, BadInclude, IncludeDepth, ErrorDirective, UnterminatedCall, WrongArguments, BadPaste, BadStringize, BadToken, Syntax, BadPragma}
 
 -- the code of a cause
 abbrev pub code_of : Cause → ℕ
@@ -27,6 +27,7 @@ code_of BadPaste = 19
 code_of BadStringize = 20
 code_of BadToken = 21
 code_of Syntax = 22
+code_of BadPragma = 23
 
 -- the name of a cause
 abbrev pub name_of : Cause → List ℕ
@@ -52,3 +53,4 @@ name_of BadPaste = codes "BadPaste"
 name_of BadStringize = codes "BadStringize"
 name_of BadToken = codes "BadToken"
 name_of Syntax = codes "Syntax"
+name_of BadPragma = codes "BadPragma"

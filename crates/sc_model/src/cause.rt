@@ -25,6 +25,7 @@ pub enum Cause {
     BadStringize,
     BadToken,
     Syntax,
+    BadPragma,
 }
 
 impl Cause {
@@ -57,6 +58,7 @@ impl Cause {
             Cause::BadStringize => 20,
             Cause::BadToken => 21,
             Cause::Syntax => 22,
+            Cause::BadPragma => 23,
         }
     }
 
@@ -87,6 +89,7 @@ impl Cause {
             Cause::BadStringize => "BadStringize",
             Cause::BadToken => "BadToken",
             Cause::Syntax => "Syntax",
+            Cause::BadPragma => "BadPragma",
         }
     }
 }

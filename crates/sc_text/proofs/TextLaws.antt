@@ -5,7 +5,7 @@ use Rattle.std.proofs.lemmas.Bool.{true≢false, and_parts, or_parts, not-true}
 use Rattle.std.proofs.lemmas.Option.{same_Some}
 use Rattle.std.specs.List.{concat, flat_map, list_all, list_any}
 use Rattle.sc_model.specs.declared.cause.Cause.{Cause}
-use Rattle.sc_model.specs.declared.cause.Cause.TheVariants.{NotFound, FileTooLarge, UnterminatedComment, BadNesting, BadDirective, BadDefine, Redefined, ProtectedName, BadIf, IfDivision, IfOverflow, IfShift, DefinedFromMacro, BadInclude, IncludeDepth, ErrorDirective, UnterminatedCall, WrongArguments, BadPaste, BadStringize, BadToken, Syntax}
+use Rattle.sc_model.specs.declared.cause.Cause.TheVariants.{NotFound, FileTooLarge, UnterminatedComment, BadNesting, BadDirective, BadDefine, Redefined, ProtectedName, BadIf, IfDivision, IfOverflow, IfShift, DefinedFromMacro, BadInclude, IncludeDepth, ErrorDirective, UnterminatedCall, WrongArguments, BadPaste, BadStringize, BadToken, Syntax, BadPragma}
 use Rattle.sc_model.specs.Bytes.{has_no_newline}
 use Rattle.sc_model.specs.Cause.{code_of, name_of}
 use Rattle.sc_model.specs.Fault.{Fault}
@@ -147,7 +147,7 @@ cut-root_text (Some m) (Some n) r s e =
 causes : List Cause
 causes =
     NotFound ∷ FileTooLarge ∷ UnterminatedComment ∷ BadNesting ∷ BadDirective ∷ BadDefine ∷ Redefined ∷ ProtectedName ∷ BadIf ∷ IfDivision ∷ IfOverflow ∷ IfShift
-    ∷ DefinedFromMacro ∷ BadInclude ∷ IncludeDepth ∷ ErrorDirective ∷ UnterminatedCall ∷ WrongArguments ∷ BadPaste ∷ BadStringize ∷ BadToken ∷ Syntax ∷ []
+    ∷ DefinedFromMacro ∷ BadInclude ∷ IncludeDepth ∷ ErrorDirective ∷ UnterminatedCall ∷ WrongArguments ∷ BadPaste ∷ BadStringize ∷ BadToken ∷ Syntax ∷ BadPragma ∷ []
 
 cause-code : (cause : Cause) → get_or causes (code_of cause - 1) NotFound ≡ cause
 unfolding causes
