@@ -2,6 +2,7 @@ pub mod DecidesLaws
 pub mod IfLines
 pub mod ListedLaws
 pub mod NestLaws
+pub mod PragmaLaws
 pub mod PreLaws
 pub mod Nesting
 pub mod SomeNesting

@@ -17,6 +17,8 @@ use Rattle.c11_expressions.specs.Lines as expressions
 use Rattle.c11_headers.specs.Headers.{Header, header_of, candidates}
 use Rattle.sc_model.specs.Outside.{Files, largest_file}
 use Rattle.sc_model.specs.Fault.{Fault, first_place, fault_at}
+use Rattle.c11_directives.proofs.PragmaLaws.{pragmas-sole}
+use Rattle.c11_directives.specs.Pragmas.{CarriesOutPragmas, RunBecomes, expanded as run_expanded, not_expanded as run_not_expanded}
 use Rattle.c11_directives.specs.Pre.{Context, State, place_in, put_out, Closes, closed, refused, RefusedAt, operand_of, decision_of, Decides, if_defined, if_undefined, no_name, expression, with_text, with_macro, Defines, fresh, again, redefined, undefined, is_barrier, is_ignored, is_said, Changes, ignored, unknown, error, defines, defines_nothing, undefines, is_once_file, state_behind, Steps, text, null, stopped, carried_out, Carries, changed, not_changed, not_expanded, numbered, not_numbered, no_header, too_deep, included, deeper, back, Walks, done, line, line_stops, taken, taken_stops, passed, passed_stops, head_stops, WalksBranches, none_taken, last_taken, later_taken, later_passed, later_stops, File, search, inside, file_lines, Enters, too_large, unended, badly_nested, stopped_inside, walked, Includes, missing, left_out, entered, output_of, Pre}
 use Rattle.sc_model.specs.Space.{Space}
 use Rattle.c11_macros.specs.Hidden.{Failure}
@@ -65,14 +67,23 @@ same fault = fault
 text-sole : {macros : Macros} {text : List Token} {r : Result (List Token) Fault} → TextExpands macros text r → Sole (TextExpands macros text) r
 text-sole d s e = d.is ∙ (ap text_of_answer (one d.expands e.answer e.expands).answer ∙ sym e.is)
 
+run-sole : {macros : Macros} {run : List Token} {r : Result (List Token) Fault} → RunBecomes macros run r → Sole (RunBecomes macros run) r
+run-sole (run_expanded ts e d) s (run_expanded us f g) =
+    let same : Ok ts ≡ Ok us = text-sole e (Ok us) f in
+    let tokens : ts ≡ us = cc in
+    pragmas-sole d s (subst (λ vs. CarriesOutPragmas vs s) (sym tokens) g)
+run-sole (run_expanded ts e d) _ (run_not_expanded fault f) = let other = text-sole e (Err fault) f in cc
+run-sole (run_not_expanded fault e) _ (run_expanded us f g) = let other = text-sole e (Ok us) f in cc
+run-sole (run_not_expanded fault e) _ (run_not_expanded other f) = text-sole e (Err other) f
+
 closes-sole : {s : State} {r : Result State Fault} → Closes s r → Sole (Closes s) r
 closes-sole {s} (closed output b) _ (closed output' b') =
-    let oks : Ok output ≡ Ok output' = text-sole b (Ok output') b' in
+    let oks : Ok output ≡ Ok output' = run-sole b (Ok output') b' in
     let outputs : output ≡ output' = cc in
     ap (λ ts. Ok (put_out s ts)) outputs
-closes-sole (closed output b) _ (refused fault b') = let other = text-sole b (Err fault) b' in cc
-closes-sole (refused fault b) _ (closed output b') = let other = text-sole b (Ok output) b' in cc
-closes-sole (refused fault b) _ (refused fault' b') = let errs = text-sole b (Err fault') b' in cc
+closes-sole (closed output b) _ (refused fault b') = let other = run-sole b (Err fault) b' in cc
+closes-sole (refused fault b) _ (closed output b') = let other = run-sole b (Ok output) b' in cc
+closes-sole (refused fault b) _ (refused fault' b') = let errs = run-sole b (Err fault') b' in cc
 
 -- the refusal of a directive, which has a first token
 abbrev refusal : State → Line → Cause → Fault

@@ -12,6 +12,9 @@ use Rattle.c11_directives.specs.declared.directive.Directive.TheVariants as dire
 use Rattle.c11_directives.specs.declared.directive.Test.{Test}
 use Rattle.c11_directives.specs.Behind.{Says, as_it_stands, begins_with_header, behind_name, expanded, is_numbering}
 use Rattle.c11_directives.specs.Lines.{Group, Branches, Line, IsGroup, AreBranches, Tree, alternative, closing, conditional_in, empty, group_lines, branch_lines, conditional_of, hash_of, nested, otherwise, plain, section, test_in, test_of}
+use Rattle.c11_directives.proofs.PragmaLaws.{pragmas-some}
+use Rattle.c11_directives.specs.Pragmas as pragma
+use Rattle.c11_directives.specs.Pragmas.{RunBecomes}
 use Rattle.c11_directives.specs.Pre.{Carries, Changes, Closes, Context, Decides, Defines, Enters, File, Includes, Pre, RefusedAt, State, Steps, Walks, WalksBranches, back, context_of, decided, deeper, file_lines, initial_state, inside, is_barrier, is_said, operand_of, output_of, place_in, put_out, search, is_once_file, state_behind, undefined, with_macro, with_text, without_macro}
 use Rattle.c11_directives.specs.Pre as pre
 use Rattle.c11_directives.proofs.DecidesLaws.{some_decision}
@@ -143,10 +146,17 @@ text-some macros finite text =
     let x = halts place_alone macros finite.names finite.within (map unhidden text) in
     (text_of_answer x.0, record { answer = x.0; expands = x.1; is = refl })
 
-closes-some : (depth : ℕ) (s : State) → GoesOn depth s → HasEnd depth (Closes s)
-closes-some depth s goes = by (text-some s.macros goes.finite s.run).0 (text-some s.macros goes.finite s.run).1
+run-some : (macros : Macros) → AreFinite macros → (run : List Token) → (r : Result (List Token) Fault) × RunBecomes macros run r
+run-some macros finite run = by (text-some macros finite run).0 (text-some macros finite run).1
   where
-    by : (r : Result (List Token) Fault) → TextExpands s.macros s.run r → HasEnd depth (Closes s)
+    by : (r : Result (List Token) Fault) → TextExpands macros run r → (s : Result (List Token) Fault) × RunBecomes macros run s
+    by (Ok ts) is = let x = pragmas-some ts in (x.0, pragma.expanded ts is x.1)
+    by (Err fault) is = (Err fault, pragma.not_expanded fault is)
+
+closes-some : (depth : ℕ) (s : State) → GoesOn depth s → HasEnd depth (Closes s)
+closes-some depth s goes = by (run-some s.macros goes.finite s.run).0 (run-some s.macros goes.finite s.run).1
+  where
+    by : (r : Result (List Token) Fault) → RunBecomes s.macros s.run r → HasEnd depth (Closes s)
     by (Ok output) is = record { end = Ok (put_out s output); ends = pre.closed output is; well = record { finite = goes.finite; deep = goes.deep } }
     by (Err fault) is = record { end = Err fault; ends = pre.refused fault is; well = tt }
 

@@ -12,6 +12,7 @@ use Rattle.c11_directives.specs.Behind.{behind_name, Says, is_numbering}
 use Rattle.c11_expressions.specs.Lines as expressions
 use Rattle.c11_headers.specs.Headers.{Header, header_of, candidates}
 use Rattle.c11_tokens.specs.Lex.{is_identifier_kind, Lexed}
+use Rattle.c11_directives.specs.Pragmas.{RunBecomes}
 use Rattle.c11_directives.specs.Lines.{Line, lines_of, test_of, hash_of, Group, Branches, empty, plain, section, closing, otherwise, alternative, Tree}
 use Rattle.sc_model.specs.Fault.{Fault, fault_at, first_place}
 use Rattle.sc_model.specs.Outside.{Files, largest_file}
@@ -20,7 +21,7 @@ use Rattle.c11_macros.specs.Defines.{Defined, is_protected, reads}
 use Rattle.c11_macros.specs.Macros.{Definition, Macros, initial_macros}
 use Rattle.c11_macros.specs.Hidden.{Failure}
 use Rattle.c11_macros.specs.Results.{result_map}
-use Rattle.c11_macros.specs.Text.{TextExpands, fault_of, place_alone, unhidden}
+use Rattle.c11_macros.specs.Text.{fault_of, place_alone, unhidden}
 use Rattle.sc_model.specs.Bytes.{same_bytes}
 use Rattle.sc_model.specs.Token.{Position, Place, Lexeme, Token, in_file}
 use Rattle.sc_model.specs.declared.standard.Standard.{Standard}
@@ -54,10 +55,10 @@ with_text s line = record s { run = s.run ++ line.tokens }
 abbrev pub put_out : State → List Token → State
 put_out s output = record s { run = []; output = s.output ++ output }
 
--- a barrier closes the run, which is put out as what it expands to
+-- a barrier closes the run, which is put out as what it becomes
 pub data Closes (s : State) : Result State Fault → Type 0 where
-  closed : (output : List Token) → TextExpands s.macros s.run (Ok output) → Closes s (Ok (put_out s output))
-  refused : (fault : Fault) → TextExpands s.macros s.run (Err fault) → Closes s (Err fault)
+  closed : (output : List Token) → RunBecomes s.macros s.run (Ok output) → Closes s (Ok (put_out s output))
+  refused : (fault : Fault) → RunBecomes s.macros s.run (Err fault) → Closes s (Err fault)
 
 -- a refusal at the # of a directive
 pub record RefusedAt (s : State) (line : Line) (cause : Cause) (fault : Fault) : Type 0 where

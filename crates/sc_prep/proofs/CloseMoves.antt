@@ -1,5 +1,6 @@
 -- What closing the runs does at each configuration.
 use Rattle.std.proofs.Common.{◌≡◌, ℕ, ◌<◌, ◌&&◌, not, Bool, true, false, List, [], ◌∷◌, ◌++◌, All, map, length, take, Option, Some, None, Ok, Err, append-nil, append_assoc, ◌⊎◌, refl, sym, ap, subst, ◌∙◌, if◌then◌else◌, is_none}
+use Rattle.c11_directives.specs.Pragmas.{expanded as run_expanded, not_expanded as run_not_expanded}
 use Rattle.c11_macros.specs.Hidden.{failure_at}
 use Rattle.sc_base.specs.declared.fault.Fault as base
 use Rattle.sc_base.specs.declared.place.Place as base_place
@@ -15,9 +16,11 @@ use Rattle.sc_prep.proofs.ApartLemmas.{ended-tokens, gathers-ended}
 use Rattle.sc_prep.proofs.Facts.{All-append, All-cons, All-head, All-map, All-nil, All-tail, All-weaker, IsConfig-Keeps, IsConfig-kept, IsTable-Keeps, Keeps-trans, PlainToken, faults_at-Keeps, faults_at-append, items_at-Keeps, map-append, true≢false}
 use Rattle.sc_prep.proofs.Machine.{inert_closing}
 use Rattle.sc_prep.proofs.Plain.{text-plain}
-use Rattle.sc_prep.proofs.RunLemmas.{fault-items, faults-All, part-All}
-use Rattle.sc_prep.proofs.SettledText.{TextEnds, fails, puts, text-as, text-begins, text-ends}
-use Rattle.sc_prep.proofs.Terms.{AllPass, Cond, EndsRuns, Expands, Failure, Fault, HasSettled, Hidden, IsCond, IsConfig, IsHeldHidden, IsHeldWalk, IsNever, IsOneLine, IsPlaced, IsPlainState, IsStored, IsTable, Keeps, LineStage, Machine, Name, PlainEach, RunAt, Sets, TextExpands, Walk, acts, after_these, any_machine, any_token, closing_run, fault_items, fault_of, faults_at, has_no_newline, has_none, held_at, hidden_at, is_empty, is_plain, items_at, macros_at, option_to_list, place_alone, put_out, run_at, seen, seen_fault, seen_hidden, seen_place, text_of_answer, token_of}
+use Rattle.sc_prep.proofs.PragmaLaws.{carried, carries-out}
+use Rattle.sc_prep.proofs.PragmaMoves.{awaits-kept, owns-pragmas}
+use Rattle.sc_prep.proofs.RunLemmas.{fault-items, faults-All, part-All, seen-told}
+use Rattle.sc_prep.proofs.SettledText.{TextEnds, awaits-behind, fails, put-behind, puts, text-as, text-begins, text-ends}
+use Rattle.sc_prep.proofs.Terms.{AllPass, Awaited, AwaitsAt, CarriesOutPragmas, Cond, EndsRuns, Expands, Failure, Fault, HasSettled, Hidden, IsCond, IsConfig, IsHeldHidden, IsHeldWalk, IsNever, IsOneLine, IsPlaced, IsPlainState, IsStored, IsTable, Keeps, LineStage, Machine, Name, PlainEach, RunAt, RunBecomes, Sets, TextExpands, Walk, acts, after_these, any_machine, any_token, awaits, closing_run, fault_items, fault_of, faults_at, has_no_newline, has_none, held_at, hidden_at, is_empty, is_plain, items_at, macros_at, no_operator, option_to_list, outside, place_alone, put_out, run_at, seen, seen_fault, seen_hidden, seen_place, text_of_answer, token_of, tokens_within, fault_awaiting}
 use Rattle.sc_prep.proofs.Texts.{held_at-append, items_seen-append}
 use Rattle.sc_prep.proofs.WalkMoves.{owns-kept, simulates-kept}
 use Rattle.sc_prep.specs.Simulates.{Arrives, Closed, Owns, Simulates, SimulatesOneOf}
@@ -105,11 +108,6 @@ closes-none files names s w owns is never = record {
 
 -- ---- runs that end
 
--- faults, as failures of the text
-seen-told : (files : List (List ℕ)) (fs : List base.Fault) → map (seen_fault files) fs ≡ map fault_of (map (moved_failure (seen_place files)) (map seen_failure fs))
-seen-told files [] = refl
-seen-told files (f ∷ fs) = ap (λ gs. seen_fault files f ∷ gs) (seen-told files fs)
-
 empty-map : {A B : Type 0} (f : A → B) (xs : List A) → is_empty xs ≡ is_empty (map f xs)
 empty-map f [] = refl
 empty-map f (x ∷ xs) = refl
@@ -137,28 +135,39 @@ module _ (files names : List (List ℕ)) (hides : List (List Name)) where
   several-closed (x ∷ []) several = absurd (cc)
   several-closed (x ∷ (y ∷ ys)) several = (failure_at UnterminatedCall (moved (seen_place files) (seen_hidden names hides x)), refl, refl)
 
-module _ (files names : List (List ℕ)) {old new : Sets} (w next : Walk) (stored : IsStored old names (length files) w) (settled : HasSettled old names files w) (ends : EndsRuns old w new next) where
+module _ (files names : List (List ℕ)) {old new : Sets} (w next : Walk) (stored : IsStored old names (length files) w) (settled : HasSettled old names files w) (ends : EndsRuns names old w new next) where
   abbrev mid : Sets
   mid = ends.middle
 
-  keeps : Keeps old new
-  keeps = Keeps-trans ends.until ends.later
+  abbrev last : Sets
+  last = ends.last
 
-  abbrev faults_more : List base.Fault
-  faults_more = ends.e.faults.items ++ ends.ended
+  keeps : Keeps old new
+  keeps = Keeps-trans ends.until (Keeps-trans ends.until_last ends.later)
+
+  -- the faults that what was gathered has, and those of the text before
+  abbrev first_faults : List base.Fault
+  first_faults = ends.e.faults.items ++ ends.ended
 
   own-ended : All (λ (f : base.Fault). IsCond mid f.cond.0) ends.ended
   own-ended = faults-All (λ (item : Cond × Failure base_place.Place). IsCond mid item.0.0) ends.ended ends.ends.part.own
 
-  own-more : All (λ (f : base.Fault). IsCond mid f.cond.0) faults_more
-  own-more = All-append (λ (f : base.Fault). IsCond mid f.cond.0) ends.e.faults.items ends.ended ends.closed.faults_own own-ended
+  own-first : All (λ (f : base.Fault). IsCond mid f.cond.0) first_faults
+  own-first = All-append (λ (f : base.Fault). IsCond mid f.cond.0) ends.e.faults.items ends.ended ends.closed.faults_own own-ended
+
+  own-more : All (λ (f : base.Fault). IsCond last f.cond.0) ends.faults
+  own-more = subst (All (λ (f : base.Fault). IsCond last f.cond.0)) (sym ends.pragmas.is)
+      (All-append (λ (f : base.Fault). IsCond last f.cond.0) first_faults ends.pragmas.unread (λ k d h. ends.until_last.own _ (own-first k d h)) ends.pragmas.faults_own)
+
+  abbrev kept_list : List (Cond × base_token.Token)
+  kept_list = ends.pragmas.puts.kept
 
   -- the walk, without its name
   abbrev now : Walk
   now = record w {
     acting = next.acting;
-    runs = record w.runs { gathered = next.runs.gathered; held = next.runs.held; read = next.runs.read };
-    prepared = record w.prepared { list = w.prepared.list ++ ends.e.list; faults = next.prepared.faults; live = next.prepared.live };
+    runs = record w.runs { gathered = next.runs.gathered; held = next.runs.held; pragmas = next.runs.pragmas; read = next.runs.read };
+    prepared = record w.prepared { list = next.prepared.list; faults = next.prepared.faults; live = next.prepared.live };
   }
 
   module _ (c : List ℕ) (listed : IsConfig old.arities c) where
@@ -172,7 +181,11 @@ module _ (files names : List (List ℕ)) {old new : Sets} (w next : Walk) (store
     gathered = hidden_at old names files w.runs.sets w.runs.gathered c
 
     abbrev none : Bool
-    none = has_none mid faults_more c
+    none = has_none last ends.faults c
+
+    -- the faults that the configuration has of these
+    abbrev told_more : List Fault
+    told_more = map (seen_fault files) (faults_at last ends.faults c)
 
     abbrev shown : List base_token.Token → List Token
     shown ts = map (seen names files) ts
@@ -197,11 +210,59 @@ module _ (files names : List (List ℕ)) {old new : Sets} (w next : Walk) (store
         by true = ap (map (moved_failure (seen_place files))) (fault-items old w.runs.held.items c)
         by false = refl
 
-    told-now : held_at mid files faults_more c ≡ held_at mid files ends.e.faults.items c ++ held_at mid files ends.ended c
-    told-now = held_at-append mid files ends.e.faults.items ends.ended c
+    abbrev told_first : List (Failure Place)
+    told_first = held_at mid files first_faults c
 
-    none-now : none ≡ is_empty (held_at mid files faults_more c)
-    none-now = empty-map seen_failure (faults_at mid faults_more c) ∙ empty-map (moved_failure (seen_place files)) (map seen_failure (faults_at mid faults_more c))
+    told-first : told_first ≡ held_at mid files ends.e.faults.items c ++ held_at mid files ends.ended c
+    told-first = held_at-append mid files ends.e.faults.items ends.ended c
+
+    none-first : has_none mid first_faults c ≡ is_empty told_first
+    none-first = empty-map seen_failure (faults_at mid first_faults c) ∙ empty-map (moved_failure (seen_place files)) (map seen_failure (faults_at mid first_faults c))
+
+    told-now : told_more ≡ map fault_of told_first ++ map (seen_fault files) (faults_at last ends.pragmas.unread c)
+    told-now =
+        ap (λ fs. map (seen_fault files) (faults_at last fs c)) ends.pragmas.is
+        ∙ (ap (map (seen_fault files)) (faults_at-append last first_faults ends.pragmas.unread c)
+        ∙ (map-append (seen_fault files) (faults_at last first_faults c) (faults_at last ends.pragmas.unread c)
+        ∙ ap (λ fs. fs ++ map (seen_fault files) (faults_at last ends.pragmas.unread c)) (ap (map (seen_fault files)) (faults_at-Keeps first_faults c ends.until_last own-first listed_mid) ∙ seen-told files (faults_at mid first_faults c))))
+
+    none-now : none ≡ is_empty told_more
+    none-now = empty-map (seen_fault files) (faults_at last ends.faults c)
+
+    acting-mid : mid.has w.acting.0 c ≡ old.has w.acting.0 c
+    acting-mid = ends.until.at _ c stored.owns.acting listed
+
+    -- the tokens with which the runs end
+    abbrev last_tokens : List Token
+    last_tokens = tokens_within names files mid ends.e.list w.acting.0 c
+
+    tokens-told : (a several : Bool) → old.has w.acting.0 c ≡ a → is_several xs ≡ several → last_tokens ≡ (if a && not several then map token_of gathered else [])
+    tokens-told true several here is = ap (λ b. if b then shown (items_at mid ends.e.list c) else []) (acting-mid ∙ here) ∙ list-told true several here is
+    tokens-told false several here is = ap (λ b. if b then shown (items_at mid ends.e.list c) else []) (acting-mid ∙ here)
+
+    unread-now : (a n : Bool) → old.has w.acting.0 c ≡ a → is_empty told_first ≡ n
+        → map (seen_fault files) (faults_at last ends.pragmas.unread c) ≡ (if a && n then map (seen_fault files) (faults_at ends.pragmas.middle ends.pragmas.read.faults.items c) else [])
+    unread-now a n here is =
+        ends.pragmas.told files c listed_mid ∙ (λ i. if (acting-mid ∙ here) i && (none-first ∙ is) i then map (seen_fault files) (faults_at ends.pragmas.middle ends.pragmas.read.faults.items c) else [])
+
+    module _ (awaited : Awaited) (at : AwaitsAt old files w.runs.pragmas c awaited) where
+      at-mid : AwaitsAt mid files w.runs.pragmas c awaited
+      at-mid = awaits-kept ends.until stored.owns.runs.pragmas listed at
+
+      read-at : AwaitsAt ends.pragmas.middle files ends.pragmas.read c (awaits awaited last_tokens)
+      read-at = ends.pragmas.puts.awaits files c awaited listed_mid at-mid
+
+      awaits-now : (a : Bool) → old.has w.acting.0 c ≡ a → AwaitsAt new files next.runs.pragmas c (if a then no_operator else awaits awaited last_tokens)
+      awaits-now a here = awaits-kept ends.later ends.pragmas.leaves.owns (IsConfig-Keeps ends.until_last listed_mid)
+          (subst (AwaitsAt last files next.runs.pragmas c) (ap (λ b. if b then no_operator else awaits awaited last_tokens) (acting-mid ∙ here))
+          (ends.pragmas.leaves.at files c (awaits awaited last_tokens) (IsConfig-Keeps ends.pragmas.until listed_mid) read-at))
+
+      put-now : shown (items_at new next.prepared.list c) ≡ shown (items_at old w.prepared.list c) ++ outside awaited last_tokens
+      put-now =
+          ap (λ ts. shown (items_at new ts c)) ends.pragmas.puts.is
+          ∙ (items_seen-append new names files w.prepared.list kept_list c
+          ∙ (λ i. shown (items_at-Keeps w.prepared.list c keeps stored.owns.prepared.list listed i)
+          ++ (ap shown (items_at-Keeps kept_list c (Keeps-trans ends.pragmas.later ends.later) ends.pragmas.puts.part.own (IsConfig-Keeps ends.pragmas.until listed_mid)) ∙ ends.pragmas.puts.puts files c awaited listed_mid at-mid) i))
 
     -- what is left gathered and held
     gathered-left : (a : Bool) → old.has w.acting.0 c ≡ a → hidden_at new names files w.runs.sets next.runs.gathered c ≡ (if a then [] else gathered)
@@ -219,28 +280,23 @@ module _ (files names : List (List ℕ)) {old new : Sets} (w next : Walk) (store
         by true = refl
         by false = ap (map (moved_failure (seen_place files))) (fault-items old w.runs.held.items c)
 
-    put-now : shown (items_at new now.prepared.list c) ≡ shown (items_at old w.prepared.list c) ++ shown (items_at mid ends.e.list c)
-    put-now =
-        items_seen-append new names files w.prepared.list ends.e.list c
-        ∙ (λ i. shown (items_at-Keeps w.prepared.list c keeps stored.owns.prepared.list listed i) ++ shown (items_at-Keeps ends.e.list c ends.later ends.closed.own listed_mid i))
-
     module _ (m : Machine) (simulates : Simulates old names files w c m) where
       kept : Simulates new names files w c m
       kept = simulates-kept keeps w stored.owns names files c m listed stored.table simulates
 
-      faults-now : map (seen_fault files) (faults_at new next.prepared.faults.items c) ≡ option_to_list m.fault ++ map fault_of (held_at mid files faults_more c)
+      faults-now : map (seen_fault files) (faults_at new next.prepared.faults.items c) ≡ option_to_list m.fault ++ told_more
       faults-now =
-          ap (λ fs. map (seen_fault files) (faults_at new fs c)) ends.faults
-          ∙ (ap (map (seen_fault files)) (faults_at-append new w.prepared.faults.items faults_more c)
-          ∙ (map-append (seen_fault files) (faults_at new w.prepared.faults.items c) (faults_at new faults_more c)
-          ∙ (λ i. kept.prepared.fault i ++ (ap (map (seen_fault files)) (faults_at-Keeps faults_more c ends.later own-more listed_mid) ∙ seen-told files (faults_at mid faults_more c)) i)))
+          ap (λ fs. map (seen_fault files) (faults_at new fs c)) ends.told
+          ∙ (ap (map (seen_fault files)) (faults_at-append new w.prepared.faults.items ends.faults c)
+          ∙ (map-append (seen_fault files) (faults_at new w.prepared.faults.items c) (faults_at new ends.faults c)
+          ∙ (λ i. kept.prepared.fault i ++ map (seen_fault files) (faults_at-Keeps ends.faults c ends.later own-more (IsConfig-Keeps ends.until_last listed_mid) i))))
 
       -- the machine with another run and output, and maybe a fault
       abbrev become : List Token → List Token → Option Fault → Machine
       become run output fault = record m { state = record m.state { run = run; output = output }; fault = fault }
 
       simulates-next : (run output : List Token) (fault : Option Fault) → (is_none m.fault && none) ≡ is_none fault → (acts m && none) ≡ (m.active && is_none fault)
-          → option_to_list m.fault ++ map fault_of (held_at mid files faults_more c) ≡ option_to_list fault
+          → option_to_list m.fault ++ told_more ≡ option_to_list fault
           → (fault ≡ None → RunAt new names files now.runs now.prepared.list c (become run output fault).state) → Simulates new names files next c (become run output fault)
       simulates-next run output fault live acting fault_is text = subst (λ (v : Walk). Simulates new names files v c (become run output fault)) (sym ends.same) (record {
         active = kept.active;
@@ -265,48 +321,74 @@ module _ (files names : List (List ℕ)) {old new : Sets} (w next : Walk) (store
         run-left : run_at new next.runs.read c ≡ []
         run-left = ends.read.at c listed (simulates.prepared.live ∙ live) ∙ ap (λ b. if b then [] else run_at old w.runs.read c) here
 
-        closes-ok : (output : List Token) → held_at mid files faults_more c ≡ [] → shown (items_at new now.prepared.list c) ≡ m.state.output ++ output → TextExpands m.state.macros m.state.run (Ok output)
+        closes-ok : (output : List Token) → told_more ≡ [] → shown (items_at new next.prepared.list c) ≡ m.state.output ++ output → AwaitsAt new files next.runs.pragmas c no_operator → RunBecomes m.state.macros m.state.run (Ok output)
             → Arrives new names files next c (Closed m)
-        closes-ok output nothing put expands =
+        closes-ok output nothing put at becomes =
             let all : none ≡ true = none-now ∙ ap is_empty nothing in
             record {
               machine = closing_run m (Ok output);
-              done = record { answer = Ok output; expands = λ _. expands; is = refl };
+              done = record { answer = Ok output; expands = λ _. becomes; is = refl };
               simulates = subst (Simulates new names files next c) (ap (λ b. record m { state = if b then put_out m.state output else m.state }) (sym acting))
                   (simulates-next [] (m.state.output ++ output) m.fault (ap (λ b. is_none m.fault && b) all ∙ and_true (is_none m.fault)) (ap (λ b. acts m && b) all ∙ and_true (acts m))
-                  (ap (λ fs. option_to_list m.fault ++ map fault_of fs) nothing ∙ append-nil (option_to_list m.fault))
-                  (λ _. record { run = ap shown run-left; text = text-as (gathered-left true here) refl (held-left true here) (text-begins (put_out m.state output) [] (shown (items_at new now.prepared.list c)) refl put) }));
+                  (ap (λ fs. option_to_list m.fault ++ fs) nothing ∙ append-nil (option_to_list m.fault))
+                  (λ _. record {
+                    run = ap shown run-left;
+                    awaited = no_operator;
+                    awaits = at;
+                    text = text-as (gathered-left true here) refl (held-left true here) (text-begins (put_out m.state output) [] (shown (items_at new next.prepared.list c)) refl put);
+                  }));
             }
 
-        closes-err : (fault : Fault) → map fault_of (held_at mid files faults_more c) ≡ fault ∷ [] → TextExpands m.state.macros m.state.run (Err fault) → Arrives new names files next c (Closed m)
-        closes-err fault one expands =
-            let some : none ≡ false = none-now ∙ (empty-map fault_of (held_at mid files faults_more c) ∙ ap is_empty one) in
+        closes-err : (fault : Fault) → told_more ≡ fault ∷ [] → RunBecomes m.state.macros m.state.run (Err fault) → Arrives new names files next c (Closed m)
+        closes-err fault one becomes =
+            let some : none ≡ false = none-now ∙ ap is_empty one in
             record {
               machine = closing_run m (Err fault);
-              done = record { answer = Err fault; expands = λ _. expands; is = refl };
+              done = record { answer = Err fault; expands = λ _. becomes; is = refl };
               simulates = subst (Simulates new names files next c) (ap (λ b. record m { fault = if b then Some fault else m.fault }) (sym acting))
                   (simulates-next m.state.run m.state.output (Some fault) (ap (λ b. is_none m.fault && b) some ∙ and_false (is_none m.fault)) (ap (λ b. acts m && b) some ∙ (and_false (acts m) ∙ sym (and_false m.active)))
                   (ap (λ fs. option_to_list m.fault ++ fs) one ∙ ap (λ (o : Option Fault). option_to_list o ++ fault ∷ []) no_fault) (λ n. absurd (cc)));
             }
 
-        closes-as : TextEnds m.state gathered (shown (items_at old w.prepared.list c)) (held_at old files w.runs.held.items c) → Arrives new names files next c (Closed m)
-        closes-as (puts out all clean expands) = by (is_several xs) refl
-          where
-            by : (several : Bool) → is_several xs ≡ several → Arrives new names files next c (Closed m)
-            by false few =
-                closes-ok (map token_of (out ++ gathered)) (told-now ∙ (λ i. unclosed-told true false here few i ++ (ended-told true here ∙ clean) i))
-                (put-now ∙ ((λ i. all i ++ list-told true false here few i) ∙ (append_assoc m.state.output (map token_of out) (map token_of gathered) ∙ ap (λ ts. m.state.output ++ ts) (sym (map-append token_of out gathered)))))
-                (subst (λ r. TextExpands m.state.macros m.state.run (text_of_answer (after_these out r))) (few-closed files names w.runs.sets xs few) expands)
-            by true many =
-                let unclosed = several-closed files names w.runs.sets xs many in
-                closes-err (fault_of unclosed.0)
-                (ap (map fault_of) (told-now ∙ ((λ i. unclosed-told true true here many i ++ (ended-told true here ∙ clean) i) ∙ (append-nil (map (moved_failure (seen_place files)) (map unclosed_at (take 1 xs))) ∙ unclosed.2))))
-                (subst (λ r. TextExpands m.state.macros m.state.run (text_of_answer (after_these out r))) unclosed.1 expands)
-        closes-as (fails failure one nothing expands) =
-            let few : is_several xs ≡ false = ap is_several (none-left (seen_hidden names w.runs.sets) xs (none-left (moved (seen_place files)) (map (seen_hidden names w.runs.sets) xs) nothing)) in
-            closes-err (fault_of failure) (ap (map fault_of) (told-now ∙ (λ i. unclosed-told true false here few i ++ (ended-told true here ∙ one) i))) expands
+        module _ (awaited : Awaited) (at : AwaitsAt old files w.runs.pragmas c awaited) where
+          -- what is told where the text has a fault, and where it has none
+          told-err : (failure : Failure Place) → told_first ≡ failure ∷ [] → told_more ≡ fault_of failure ∷ []
+          told-err failure one = told-now ∙ (λ i. map fault_of (one i) ++ unread-now true false here (ap is_empty one) i)
 
-        text-here : TextEnds m.state gathered (shown (items_at old w.prepared.list c)) (held_at old files w.runs.held.items c)
+          told-ok : told_first ≡ [] → told_more ≡ option_to_list (fault_awaiting (awaits awaited last_tokens))
+          told-ok nothing = told-now ∙ (λ i. map fault_of (nothing i) ++ (unread-now true true here (ap is_empty nothing) ∙ (read-at awaited at).faults) i)
+
+          -- the text of the run, whose operators are carried out
+          closes-text : (ts : List Token) → TextExpands m.state.macros m.state.run (Ok ts) → told_first ≡ [] → shown (items_at new next.prepared.list c) ≡ m.state.output ++ outside no_operator ts
+              → awaits awaited last_tokens ≡ awaits no_operator ts → Arrives new names files next c (Closed m)
+          closes-text ts expands nothing put same = by (fault_awaiting (awaits no_operator ts)) refl
+            where
+              by : (o : Option Fault) → fault_awaiting (awaits no_operator ts) ≡ o → Arrives new names files next c (Closed m)
+              by None e = closes-ok (outside no_operator ts) (told-ok nothing ∙ (λ i. option_to_list ((ap fault_awaiting same ∙ e) i))) put (awaits-now awaited at true here)
+                  (run_expanded ts expands (subst (CarriesOutPragmas ts) (ap (carried (outside no_operator ts)) e) (carries-out ts)))
+              by (Some fault) e = closes-err fault (told-ok nothing ∙ (λ i. option_to_list ((ap fault_awaiting same ∙ e) i)))
+                  (run_expanded ts expands (subst (CarriesOutPragmas ts) (ap (carried (outside no_operator ts)) e) (carries-out ts)))
+
+          closes-as : TextEnds m.state gathered (shown (items_at old w.prepared.list c)) awaited (held_at old files w.runs.held.items c) → Arrives new names files next c (Closed m)
+          closes-as (puts out all behind clean expands) = by (is_several xs) refl
+            where
+              by : (several : Bool) → is_several xs ≡ several → Arrives new names files next c (Closed m)
+              by false few =
+                  closes-text (map token_of (out ++ gathered)) (subst (λ r. TextExpands m.state.macros m.state.run (text_of_answer (after_these out r))) (few-closed files names w.runs.sets xs few) expands)
+                  (told-first ∙ (λ i. unclosed-told true false here few i ++ (ended-told true here ∙ clean) i))
+                  (put-now awaited at ∙ (ap (λ ts. shown (items_at old w.prepared.list c) ++ outside awaited ts) (tokens-told true false here few)
+                  ∙ put-behind m.state gathered (shown (items_at old w.prepared.list c)) awaited out gathered all behind))
+                  (ap (awaits awaited) (tokens-told true false here few) ∙ awaits-behind m.state gathered (shown (items_at old w.prepared.list c)) awaited out gathered behind)
+              by true many =
+                  let unclosed = several-closed files names w.runs.sets xs many in
+                  closes-err (fault_of unclosed.0)
+                  (told-err unclosed.0 (told-first ∙ ((λ i. unclosed-told true true here many i ++ (ended-told true here ∙ clean) i) ∙ (append-nil (map (moved_failure (seen_place files)) (map unclosed_at (take 1 xs))) ∙ unclosed.2))))
+                  (run_not_expanded (fault_of unclosed.0) (subst (λ r. TextExpands m.state.macros m.state.run (text_of_answer (after_these out r))) unclosed.1 expands))
+          closes-as (fails failure one nothing expands) =
+              let few : is_several xs ≡ false = ap is_several (none-left (seen_hidden names w.runs.sets) xs (none-left (moved (seen_place files)) (map (seen_hidden names w.runs.sets) xs) nothing)) in
+              closes-err (fault_of failure) (told-err failure (told-first ∙ (λ i. unclosed-told true false here few i ++ (ended-told true here ∙ one) i))) (run_not_expanded (fault_of failure) expands)
+
+        text-here : TextEnds m.state gathered (shown (items_at old w.prepared.list c)) (simulates.text no_fault).awaited (held_at old files w.runs.held.items c)
         text-here =
             let macros : macros_at old names w.table c ≡ m.state.macros = λ i name. simulates.macros no_fault name i in
             text-ends (subst (λ ms. (gathered ≡ []) ⊎ ((held_at old files w.runs.held.items c ≡ []) × Expands place_alone ms gathered (closed gathered))) macros (settled c listed here)) (simulates.text no_fault).text
@@ -314,30 +396,36 @@ module _ (files names : List (List ℕ)) {old new : Sets} (w next : Walk) (store
       idles : acts m ≡ false → Arrives new names files next c (Closed m)
       idles idle =
           let out = simulates.acting ∙ idle in
-          let nothing : held_at mid files faults_more c ≡ [] = told-now ∙ (λ i. unclosed-told false (is_several xs) out refl i ++ ended-told false out i) in
+          let first : told_first ≡ [] = told-first ∙ (λ i. unclosed-told false (is_several xs) out refl i ++ ended-told false out i) in
+          let nothing : told_more ≡ [] = told-now ∙ (λ i. map fault_of (first i) ++ unread-now false true out (ap is_empty first) i) in
           let all : none ≡ true = none-now ∙ ap is_empty nothing in
+          let unread = tokens-told false (is_several xs) out refl in
           record {
             machine = closing_run m (Ok []);
             done = record { answer = Ok []; expands = λ acting. absurd (true≢false (sym acting ∙ idle)); is = refl };
             simulates = subst (Simulates new names files next c) (sym (inert_closing m (Ok []) idle))
                 (simulates-next m.state.run m.state.output m.fault (ap (λ b. is_none m.fault && b) all ∙ and_true (is_none m.fault)) (ap (λ b. acts m && b) all ∙ and_true (acts m))
-                (ap (λ fs. option_to_list m.fault ++ map fault_of fs) nothing ∙ append-nil (option_to_list m.fault))
-                (λ clean. record {
-                  run = ap shown (ends.read.at c listed (simulates.prepared.live ∙ ap is_none clean) ∙ ap (λ b. if b then [] else run_at old w.runs.read c) out) ∙ (simulates.text clean).run;
-                  text = text-as (gathered-left false out) (put-now ∙ (ap (λ ts. shown (items_at old w.prepared.list c) ++ ts) (list-told false (is_several xs) out refl) ∙ append-nil (shown (items_at old w.prepared.list c)))) (held-left false out)
-                      (simulates.text clean).text;
+                (ap (λ fs. option_to_list m.fault ++ fs) nothing ∙ append-nil (option_to_list m.fault))
+                (λ clean.
+                let was = simulates.text clean in
+                record {
+                  run = ap shown (ends.read.at c listed (simulates.prepared.live ∙ ap is_none clean) ∙ ap (λ b. if b then [] else run_at old w.runs.read c) out) ∙ was.run;
+                  awaited = was.awaited;
+                  awaits = subst (AwaitsAt new files next.runs.pragmas c) (ap (awaits was.awaited) unread) (awaits-now was.awaited was.awaits false out);
+                  text = text-as (gathered-left false out) (put-now was.awaited was.awaits ∙ (ap (λ ts. shown (items_at old w.prepared.list c) ++ outside was.awaited ts) unread ∙ append-nil (shown (items_at old w.prepared.list c))))
+                      (held-left false out) was.text;
                 }));
           }
 
       closes-at : (b : Bool) → acts m ≡ b → Arrives new names files next c (Closed m)
-      closes-at true acting = closes-as acting (text-here acting)
+      closes-at true acting = closes-as acting (simulates.text (no_fault acting)).awaited (simulates.text (no_fault acting)).awaits (text-here acting)
       closes-at false idle = idles idle
 
       -- what is put out is spelled on one line
-      put-plain : IsPlainState m.state → (acting : acts m ≡ true) → TextEnds m.state gathered (shown (items_at old w.prepared.list c)) (held_at old files w.runs.held.items c)
+      put-plain : IsPlainState m.state → (acting : acts m ≡ true) {awaited : Awaited} → TextEnds m.state gathered (shown (items_at old w.prepared.list c)) awaited (held_at old files w.runs.held.items c)
           → All (λ (t : base_token.Token). is_plain names t ≡ true) (items_at mid ends.e.list c)
-      put-plain plain acting (puts out all clean expands) =
-          let line = text-plain m.state plain.macros plain.run gathered _ _ clean (simulates.text (no_fault acting)).text in
+      put-plain plain acting (puts out all behind clean expands) =
+          let line = text-plain m.state plain.macros plain.run gathered _ _ _ clean (simulates.text (no_fault acting)).text in
           plain-seen names files (items_at mid ends.e.list c) _ (list-told true (is_several xs) (here acting) refl)
           (if-all PlainToken (not (is_several xs)) (map token_of gathered)
           (All-map PlainToken token_of gathered (All-weaker (IsOneLine place_alone) (λ (t : Hidden Place). has_no_newline t.spelling ≡ true) (λ t h. h.spelling) gathered line)))
@@ -361,11 +449,11 @@ module _ (files names : List (List ℕ)) {old new : Sets} (w next : Walk) (store
         group = was.group;
         acting = ends.acting.own;
         sections = was.sections;
-        runs = record { gathered = ends.gathered.part.own; held = faults-All (λ (item : Cond × Failure base_place.Place). IsCond new item.0.0) next.runs.held.items ends.held.part.own; read = ends.read.own };
+        runs = record { gathered = ends.gathered.part.own; pragmas = owns-pragmas ends.later ends.pragmas.leaves.owns; held = faults-All (λ (item : Cond × Failure base_place.Place). IsCond new item.0.0) next.runs.held.items ends.held.part.own; read = ends.read.own };
         once = was.once;
         prepared = record {
-          list = All-append T w.prepared.list ends.e.list was.prepared.list (λ k d h. ends.later.own _ (ends.closed.own k d h));
-          faults = subst (All F) (sym ends.faults) (All-append F w.prepared.faults.items faults_more was.prepared.faults (λ k d h. ends.later.own _ (own-more k d h)));
+          list = subst (All T) (sym ends.pragmas.puts.is) (All-append T w.prepared.list kept_list was.prepared.list (λ k d h. (Keeps-trans ends.pragmas.later ends.later).own _ (ends.pragmas.puts.part.own k d h)));
+          faults = subst (All F) (sym ends.told) (All-append F w.prepared.faults.items ends.faults was.prepared.faults (λ k d h. ends.later.own _ (own-more k d h)));
           live = ends.live.own;
         };
       })
@@ -382,16 +470,19 @@ module _ (files names : List (List ℕ)) {old new : Sets} (w next : Walk) (store
       let listed : (fs : List base.Fault) → All (λ (item : Cond × Failure base_place.Place). item.1.place.file.0 < length files) (fault_items fs) → All F fs = faults-All (λ (item : Cond × Failure base_place.Place). item.1.place.file.0 < length files) in
       let placed = ends.closed.placed (length files) (λ k d h. (was.runs.gathered k d h).1) in
       let tokens = ends.closed.held names (λ k d h. (was.runs.gathered k d h).0.token) in
+      let read_placed = ends.pragmas.puts.placed (length files) placed was.runs.pragmas in
       subst (IsHeldWalk names (length files) any_token) (sym ends.same) (record {
         runs = record {
           gathered = part-All H ends.gathered.part was.runs.gathered;
           held = listed next.runs.held.items (part-All IsThere ends.held.part failures);
+          pragmas = ends.pragmas.leaves.placed (length files) read_placed;
           read = ended-tokens (All (IsPlaced names (length files))) ends.read (All-nil (IsPlaced names (length files))) was.runs.read;
         };
-        list = All-append P w.prepared.list ends.e.list was.list (λ k d h. record { held = tokens k d h; file = placed k d h });
+        list = subst (All P) (sym ends.pragmas.puts.is) (All-append P w.prepared.list kept_list was.list (part-All (IsPlaced names (length files)) ends.pragmas.puts.part (λ k d h. record { held = tokens k d h; file = placed k d h })));
         passed = λ k d h. refl;
-        faults = subst (All F) (sym ends.faults) (All-append F w.prepared.faults.items faults_more was.faults (All-append F ends.e.faults.items ends.ended
-            (ends.closed.faults_placed (length files) (λ k d h. (was.runs.gathered k d h).1)) (listed ends.ended (part-All IsThere ends.ends.part failures))));
+        faults = subst (All F) (sym ends.told) (All-append F w.prepared.faults.items ends.faults was.faults (subst (All F) (sym ends.pragmas.is) (All-append F first_faults ends.pragmas.unread
+            (All-append F ends.e.faults.items ends.ended (ends.closed.faults_placed (length files) (λ k d h. (was.runs.gathered k d h).1)) (listed ends.ended (part-All IsThere ends.ends.part failures)))
+            (ends.pragmas.placed (length files) read_placed))));
         once = was.once;
       })
 
@@ -404,7 +495,7 @@ module _ (files names : List (List ℕ)) {old new : Sets} (w next : Walk) (store
     };
     held = still-held;
     plain = λ each was. subst (λ (v : Walk). AllPass (is_plain names) v.prepared.list) (sym ends.same)
-        (All-append (λ (item : Cond × base_token.Token). is_plain names item.1 ≡ true) w.prepared.list ends.e.list was
-        (plain-by mid names ends.e.list (λ c listed. let was = IsConfig-kept ends.until listed in plain-at c was each (old.has w.acting.0 c) refl) ends.closed.some));
+        (subst (AllPass (is_plain names)) (sym ends.pragmas.puts.is) (All-append (λ (item : Cond × base_token.Token). is_plain names item.1 ≡ true) w.prepared.list kept_list was
+        (part-All (λ (t : base_token.Token). is_plain names t ≡ true) ends.pragmas.puts.part (plain-by mid names ends.e.list (λ c listed. let was = IsConfig-kept ends.until listed in plain-at c was each (old.has w.acting.0 c) refl) ends.closed.some))));
     gathers = gathers-ended w next ends.read;
   }

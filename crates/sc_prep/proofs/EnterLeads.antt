@@ -116,7 +116,7 @@ module _ {old mid : Sets} {names : List (List ℕ)} {w : Walk} {within : Cond} (
 
   -- its lines are walked
   module _ {last new : Sets} {begun walked next : Walk} {around : Around} (more more_files : List (List ℕ)) (later : Keeps mid last) (latest : Keeps last new)
-      (begins : Begins w within begun around) (leaves : Leaves last walked around new next) where
+      (begins : Begins mid w within begun around) (leaves : Leaves last walked around new next) where
     whole : Keeps old last
     whole = Keeps-trans keeps later
 
@@ -202,13 +202,13 @@ module _ {old mid : Sets} {names : List (List ℕ)} {w : Walk} {within : Cond} (
         entered-by : IsBetweenRuns m → (b : Bool) → mid.has within.0 config ≡ b → Arrives new more more_files next config (EntersFile x config m)
         entered-by between true here =
             let both = both-enter config m listed at here in
-            let begun_at = begins-start mid names files w begun within around config m begins (stays config m listed at) here both.1 between entry.depth (text_at files entry.file.0) in
+            let begun_at = begins-start mid names files w begun within around config m begins (stays config m listed at) (IsConfig-Keeps keeps listed) here both.1 between entry.depth (text_at files entry.file.0) in
             let after = walks.at config (start first) (IsConfig-Keeps keeps listed) begun_at (simulates.begins first refl (record { name = named; deep = refl })) in
             let entered = covers-entered x file (record m.state { depth = entry.depth }) has.are.lexemes has.are.group has.are.few has.are.lexed lines-are has.are.tree after.done in
             left-by between after.machine after.simulates here entered.end entered.enters entered.leaves
         entered-by between false out =
-            let output = put-before mid names files w begun within around config m begins (stays config m listed at) in
-            let after = walks.at config (idle m output) (IsConfig-Keeps keeps listed) (begins-idle mid names files w begun within around config m begins (stays config m listed at) out) (simulates.idles refl refl) in
+            let output = put-before mid names files w begun within around config m begins (stays config m listed at) (IsConfig-Keeps keeps listed) in
+            let after = walks.at config (idle m output) (IsConfig-Keeps keeps listed) (begins-idle mid names files w begun within around config m begins (stays config m listed at) (IsConfig-Keeps keeps listed) out) (simulates.idles refl refl) in
             let still : after.machine ≡ idle m output = covers-idle (idle m output) has.are.tree refl after.done in
             record {
               machine = m;
@@ -244,13 +244,13 @@ module _ {old mid : Sets} {names : List (List ℕ)} {w : Walk} {within : Cond} (
             let both = both-enter config m was at here in
             let first = entering entry.depth (text_at files entry.file.0) m.state in (
               start first,
-              begins-start mid names files w begun within around config m begins (stays config m was at) here both.1 between entry.depth (text_at files entry.file.0),
+              begins-start mid names files w begun within around config m begins (stays config m was at) (IsConfig-Keeps keeps was) here both.1 between entry.depth (text_at files entry.file.0),
               simulates.begins first refl (record { name = named; deep = refl }),
               record { macros = state.macros; run = state.run; file = path },
             )
         by config was m at between state false out = (
-          idle m (put-before mid names files w begun within around config m begins (stays config m was at)),
-          begins-idle mid names files w begun within around config m begins (stays config m was at) out,
+          idle m (put-before mid names files w begun within around config m begins (stays config m was at) (IsConfig-Keeps keeps was)),
+          begins-idle mid names files w begun within around config m begins (stays config m was at) (IsConfig-Keeps keeps was) out,
           simulates.idles refl refl,
           record { macros = state.macros; run = tt; file = state.file },
         )

@@ -33,12 +33,12 @@ resumed m n run output = record n { active = m.active; sections = m.sections; st
 
 -- before the first line of the file
 module _ (s : Sets) (names files : List (List ℕ)) (w next : Walk) (within : Cond) (around : Around) (config : List ℕ) (m : Machine)
-    (begins : Begins w within next around) (at : Simulates s names files w config m) where
+    (begins : Begins s w within next around) (at : Simulates s names files w config m) (listed : IsConfig s.arities config) where
   abbrev pub put-before : List Token
   put-before = map (seen names files) (items_at s w.prepared.list config)
 
   run-begins : (state : State) → state.run ≡ [] → put-before ≡ state.output → RunAt s names files next.runs w.prepared.list config state
-  run-begins state empty same = run-empty state begins.gathered begins.held begins.read empty same
+  run-begins state empty same = run-empty listed state begins.pragmas begins.gathered begins.held begins.read empty same
 
   none-open : map (section_at s config) (reverse next.sections.items) ≡ []
   none-open = ap (λ xs. map (section_at s config) (reverse xs)) begins.sections
@@ -62,7 +62,7 @@ module _ (s : Sets) (names files : List (List ℕ)) (w next : Walk) (within : Co
         acting = here;
         sections = none-open;
         prepared = record { live = at.prepared.live ∙ ap is_none none; fault = at.prepared.fault ∙ ap option_to_list none };
-        text = λ _. run-begins (entering depth name m.state) (between acting) (text-empty m.state _ _ _ (between acting) (at.text none).text).1;
+        text = λ _. run-begins (entering depth name m.state) (between acting) (text-empty m.state _ _ _ _ (between acting) (at.text none).text).1;
         macros = λ _. at.macros none;
         once = λ _. at.once none;
       })
@@ -89,7 +89,7 @@ module _ {old new : Sets} (keeps : Keeps old new) (names files : List (List ℕ)
 
     -- what was put out in the file where its run was closed
     pub put-inside : n.fault ≡ None → n.state.run ≡ [] → put-now ≡ n.state.output
-    put-inside none unrun = (text-empty n.state _ put-now _ unrun (kept.text none).text).1
+    put-inside none unrun = (text-empty n.state _ put-now _ _ unrun (kept.text none).text).1
 
     -- the machine goes on in the state around, with the text that was read there
     pub resumes : (run output : List Token) → (n.fault ≡ None → RunAt new names files around.runs w.prepared.list config (resumed m n run output).state)

@@ -9,7 +9,7 @@ use Rattle.sc_prep.proofs.BetweenRuns.{refused-acts}
 use Rattle.sc_prep.proofs.ComesFrom.{comes-entered, comes-inert}
 use Rattle.sc_prep.proofs.EnterLeads.{HasLines, both-enter, stays, enters-again}
 use Rattle.sc_prep.proofs.EnterMoves.{begins-idle, begins-start, entering, idle, put-before}
-use Rattle.sc_prep.proofs.Facts.{same_Some, take-append-drop}
+use Rattle.sc_prep.proofs.Facts.{IsConfig-Keeps, same_Some, take-append-drop}
 use Rattle.sc_prep.proofs.Going.{Stage, Staged, came, searched, waits}
 use Rattle.sc_prep.proofs.Machine.{barrier-plain, runs-more, runs-none, said-barrier}
 use Rattle.sc_prep.proofs.Stopping.{here_at, moments-as}
@@ -95,7 +95,7 @@ comes-included {m = m} file hash is hashed staged left_is inside =
 -- ---- a file that is entered
 
 module _ {standard : Standard} {old mid : Sets} {names : List (List ℕ)} {w begun : Walk} {inside : Cond} {around : Around} (files : List (List ℕ)) (cond : Cond) (entry : Entry) (keeps : Keeps old mid)
-    (inside_is : Denotes mid inside.0 (λ c. (old.has cond.0 c && old.has w.acting.0 c) && not (once_at old files w.once.items c (text_at files entry.file.0)))) (owns : Owns old w) (is : IsTable old names w.table) (begins : Begins w inside begun around)
+    (inside_is : Denotes mid inside.0 (λ c. (old.has cond.0 c && old.has w.acting.0 c) && not (once_at old files w.once.items c (text_at files entry.file.0)))) (owns : Owns old w) (is : IsTable old names w.table) (begins : Begins mid w inside begun around)
     (x : Context) (by_standard : x.standard ≡ standard) (lines : FileLines) (named : slice_get files entry.file.0 ≡ Some (text_at files entry.file.0))
     (has : HasLines standard names files (text_at files entry.file.0) (x.files (text_at files entry.file.0)) lines) where
   abbrev file : File
@@ -116,7 +116,7 @@ module _ {standard : Standard} {old mid : Sets} {names : List (List ℕ)} {w beg
       by m at between true enters =
           let both = both-enter files cond entry keeps inside_is owns is config m listed at enters in
           let first = entering entry.depth (text_at files entry.file.0) m.state in
-          let begun_at = begins-start mid names files w begun inside around config m begins (stays files cond entry keeps inside_is owns is config m listed at) enters both.1 between entry.depth (text_at files entry.file.0) in (
+          let begun_at = begins-start mid names files w begun inside around config m begins (stays files cond entry keeps inside_is owns is config m listed at) (IsConfig-Keeps keeps listed) enters both.1 between entry.depth (text_at files entry.file.0) in (
             both.0,
             moments-as
                 (λ k comes. record {
@@ -130,6 +130,6 @@ module _ {standard : Standard} {old mid : Sets} {names : List (List ℕ)} {w beg
                 (comes (start first) begun_at (simulates.begins first refl (record { name = named; deep = refl }))),
           )
       by m at between false out =
-          let stands = begins-idle mid names files w begun inside around config m begins (stays files cond entry keeps inside_is owns is config m listed at) out in
-          let k = idle m (put-before mid names files w begun inside around config m begins (stays files cond entry keeps inside_is owns is config m listed at)) in
+          let stands = begins-idle mid names files w begun inside around config m begins (stays files cond entry keeps inside_is owns is config m listed at) (IsConfig-Keeps keeps listed) out in
+          let k = idle m (put-before mid names files w begun inside around config m begins (stays files cond entry keeps inside_is owns is config m listed at) (IsConfig-Keeps keeps listed)) in
           absurd (comes-inert k has.are.tree refl (comes k stands (simulates.idles refl refl)).comes)

@@ -34,6 +34,7 @@ read-held names files test w hide own none line all held =
             (All-map H (λ (h : Hidden). (w.acting, h)) (map (bare hide) line) (All-map (λ (h : Hidden). H (w.acting, h)) (bare hide) line
             (λ k d h. let t = all k d h in (record { token = t.held; hide = record { own = own; held = nothing } }, t.file))));
         held = held.runs.held;
+        pragmas = held.runs.pragmas;
         read = subst (All (IsPlaced names files)) (sym (read-more w.runs.read w.acting line)) (All-append (IsPlaced names files) (tokens_read w.runs.read) line held.runs.read all);
       };
       list = held.list;

@@ -29,7 +29,7 @@ module _ {standard : Standard} {old new : Sets} {names files : List (List ℕ)} 
   ready-kept = record { owns = owns-kept keeps w ready.owns; table = IsTable-Keeps keeps ready.table; held = ready.held; read = ready.read }
 
   -- behind a file that was entered from a walk which the store and the tables still hold
-  pub ready-left : {next from begun : Walk} {within : Cond} {around : Around} → Leaves old w around new next → Begins from within begun around → Owns old from
+  pub ready-left : {started : Sets} {next from begun : Walk} {within : Cond} {around : Around} → Leaves old w around new next → Begins started from within begun around → Owns old from
       → IsHeldWalk names (length files) any_token from → IsReady standard new names files holds next contents
   ready-left {next} {from} leaves begins owns held =
       let back = owns-kept keeps from owns in
@@ -65,19 +65,19 @@ module _ {standard : Standard} {old new : Sets} {names files : List (List ℕ)} 
         read = ready.read;
       }
 
-pub ready-begun : {standard : Standard} {s : Sets} {names files : List (List ℕ)} {holds : Option Files} {w next : Walk} {contents : Contents} {within : Cond} {around : Around} → Begins w within next around
+pub ready-begun : {standard : Standard} {s : Sets} {names files : List (List ℕ)} {holds : Option Files} {w next : Walk} {contents : Contents} {within : Cond} {around : Around} → Begins s w within next around
     → IsCond s within.0 → IsReady standard s names files holds w contents → IsReady standard s names files holds next contents
 ready-begun {standard} {s} {names} {files} {holds} {w} {next} {contents} begins own ready = subst (λ (v : Walk). IsReady standard s names files holds v contents) (sym begins.is) (record {
   owns = record {
     group = own;
     acting = own;
     sections = subst (All (OwnsSection s)) (sym begins.sections) (All-nil (OwnsSection s));
-    runs = owns-none begins.gathered begins.held begins.read s;
+    runs = owns-none begins.gathered begins.held begins.read s begins.pragmas;
     once = ready.owns.once;
     prepared = ready.owns.prepared;
   };
   table = ready.table;
-  held = record { runs = holds-none begins.gathered begins.held begins.read names (length files); list = ready.held.list; passed = ready.held.passed; faults = ready.held.faults; once = ready.held.once };
+  held = record { runs = holds-none begins.gathered begins.held begins.read names (length files) begins.pragmas; list = ready.held.list; passed = ready.held.passed; faults = ready.held.faults; once = ready.held.once };
   read = ready.read;
 })
 

@@ -41,6 +41,8 @@ pub mod OnceLemmas
 pub mod OnceMoves
 pub mod PartFootprints
 pub mod Passing
+pub mod PragmaLaws
+pub mod PragmaMoves
 pub mod Plain
 pub mod PlainRuns
 pub mod PlainWalks

@@ -4,7 +4,7 @@ use Rattle.std.proofs.Common.{◌≡◌, ◌&&◌, not, Bool, true, false, List,
 use Rattle.c11_directives.specs.declared.directive.Directive.TheVariants as directive
 use Rattle.sc_model.specs.Token.{Token}
 use Rattle.sc_prep.proofs.Facts.{same_definition-false, same_definition-true}
-use Rattle.sc_prep.proofs.Terms.{Alternative, Answers, AreBranches, Branches, Carries, Cause, Changes, Conditional, Context, Decided, Decides, Defined, Defines, Definition, Directive, Endif, Fault, Group, IsGroup, Line, Machine, Macros, Opens, Redefined, RefusedAt, Runs, Standard, State, Steps, Takes, Test, TextExpands, Walks, WalksBranches, acting, acts, again, alternative, arriving, asks_by, behind_name, branch_lines, branched_as, carried_out, carries, changed, changed_by, changing, closed, closes, closing, closing_run, conditional_in, conditional_of, defined_as, defined_over, defines, defines_nothing, done, empty, ended, ends_run, error, first_place, fresh, group_lines, hash_of, head_stops, ignored, is_barrier, is_said, last_taken, later_passed, later_stops, later_taken, line, line_of, line_stops, next_branch, none_taken, not_changed, null, opened, opened_as, option_map, otherwise, passed, passed_stops, place_in, plain, plain_by, plain_step, put_out, reads, redefined, refusal, refused, refusing, same_definition, section, state_behind, step, step_by, stopped, taken, taken_stops, takes, text, turned, undefines, unknown, unwrap_or, with_macro, with_text}
+use Rattle.sc_prep.proofs.Terms.{Alternative, Answers, AreBranches, Branches, Carries, Cause, Changes, Conditional, Context, Decided, Decides, Defined, Defines, Definition, Directive, Endif, Fault, Group, IsGroup, Line, Machine, Macros, Opens, Redefined, RefusedAt, Runs, Standard, State, Steps, Takes, Test, RunBecomes, Walks, WalksBranches, acting, acts, again, alternative, arriving, asks_by, behind_name, branch_lines, branched_as, carried_out, carries, changed, changed_by, changing, closed, closes, closing, closing_run, conditional_in, conditional_of, defined_as, defined_over, defines, defines_nothing, done, empty, ended, ends_run, error, first_place, fresh, group_lines, hash_of, head_stops, ignored, is_barrier, is_said, last_taken, later_passed, later_stops, later_taken, line, line_of, line_stops, next_branch, none_taken, not_changed, null, opened, opened_as, option_map, otherwise, passed, passed_stops, place_in, plain, plain_by, plain_step, put_out, reads, redefined, refusal, refused, refusing, same_definition, section, state_behind, step, step_by, stopped, taken, taken_stops, takes, text, turned, undefines, unknown, unwrap_or, with_macro, with_text}
 use Rattle.sc_prep.specs.Machine as machine
 
 -- ---- one line after another
@@ -379,7 +379,7 @@ module _ (x : Context) where
   changes macros l directive.Unknown b unsaid = unknown
 
   -- a directive that is carried out where the run was closed
-  carried_follows : (l : Line) (s : State) (d : Directive) → l.directive ≡ Some d → is_barrier d ≡ true → (output : List Token) → TextExpands s.macros s.run (Ok output)
+  carried_follows : (l : Line) (s : State) (d : Directive) → l.directive ≡ Some d → is_barrier d ≡ true → (output : List Token) → RunBecomes s.macros s.run (Ok output)
       → (ss : List (Bool × Bool)) (r : Result State Fault) → Carries x l (put_out s output) d r → EndsAs (Steps x l) s ss (arriving (taking ss (put_out s output)) r)
   carried_follows l s d e b output expands ss (Ok t) does =
       record { end = t; fault = None; walks = carried_out d (put_out s output) e b (closed output expands) does; is = refl }
@@ -387,12 +387,12 @@ module _ (x : Context) where
       record { end = put_out s output; fault = Some fault; walks = carried_out d (put_out s output) e b (closed output expands) does; is = refl }
 
   -- where the run has a fault
-  stopped_follows : (l : Line) (s : State) (d : Directive) → l.directive ≡ Some d → is_barrier d ≡ true → (fault : Fault) → TextExpands s.macros s.run (Err fault)
+  stopped_follows : (l : Line) (s : State) (d : Directive) → l.directive ≡ Some d → is_barrier d ≡ true → (fault : Fault) → RunBecomes s.macros s.run (Err fault)
       → (ss : List (Bool × Bool)) (n : Machine) → n ≡ after ss s (Some fault) → EndsAs (Steps x l) s ss n
   stopped_follows l s d e b fault expands ss n is = record { end = s; fault = Some fault; walks = stopped d fault e b (refused fault expands); is = is }
 
   -- a directive that changes macros
-  changed_follows : (l : Line) (s : State) → HasHash l → (d : Directive) → l.directive ≡ Some d → is_barrier d ≡ true → is_said d ≡ false → (output : List Token) → TextExpands s.macros s.run (Ok output)
+  changed_follows : (l : Line) (s : State) → HasHash l → (d : Directive) → l.directive ≡ Some d → is_barrier d ≡ true → is_said d ≡ false → (output : List Token) → RunBecomes s.macros s.run (Ok output)
       → (ss : List (Bool × Bool)) (r : Result Macros Cause) → changed_by s.macros l d ≡ r → EndsAs (Steps x l) s ss (changing (taking ss (put_out s output)) l d r)
   changed_follows l s has d e b unsaid output expands ss (Ok macros) r =
       carried_follows l s d e b output expands ss (Ok (state_behind (put_out s output) l d macros)) (changed macros (subst (Changes s.macros l d) r (changes s.macros l d b unsaid)))
@@ -406,7 +406,7 @@ module _ (x : Context) where
 
   -- a barrier
   barrier_follows : (l : Line) (s : State) → HasHash l → conditional_of l ≡ None → (d : Directive) → l.directive ≡ Some d → is_barrier d ≡ true → is_said d ≡ false
-      → (ss : List (Bool × Bool)) (r : Result (List Token) Fault) → TextExpands s.macros s.run r → EndsAs (Steps x l) s ss (step (closing_run (taking ss s) r) l (Ok false))
+      → (ss : List (Bool × Bool)) (r : Result (List Token) Fault) → RunBecomes s.macros s.run r → EndsAs (Steps x l) s ss (step (closing_run (taking ss s) r) l (Ok false))
   barrier_follows l s has none d e b unsaid ss (Ok output) expands =
       subst (EndsAs (Steps x l) s ss) (sym (barrier_is (taking ss (put_out s output)) l d none e b)) (changed_follows l s has d e b unsaid output expands ss (changed_by s.macros l d) refl)
   barrier_follows l s has none d e b unsaid ss (Err fault) expands =
@@ -415,7 +415,7 @@ module _ (x : Context) where
 
   -- a directive that is carried out by what it says
   said_follows : (l : Line) (s : State) (d : Directive) → l.directive ≡ Some d → is_barrier d ≡ true → (ss : List (Bool × Bool)) (r : Result (List Token) Fault) (end : Result State Fault)
-      → TextExpands s.macros s.run r → machine.CarriesOut x (closing_run (taking ss s) r) l d end → EndsAs (Steps x l) s ss (arriving (closing_run (taking ss s) r) end)
+      → RunBecomes s.macros s.run r → machine.CarriesOut x (closing_run (taking ss s) r) l d end → EndsAs (Steps x l) s ss (arriving (closing_run (taking ss s) r) end)
   said_follows l s d e b ss (Ok output) end expands does = carried_follows l s d e b output expands ss end (does refl)
   said_follows l s d e b ss (Err fault) end expands does =
       let stop = after ss s (Some fault) in

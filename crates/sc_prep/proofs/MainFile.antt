@@ -17,6 +17,8 @@ use Rattle.sc_prep.proofs.MainWalk.{begins-as, entered-ordinary, finds-main}
 use Rattle.sc_prep.proofs.Plain.{initial-plain}
 use Rattle.sc_prep.proofs.Stopping.{moments-as, stops-among, stops-as}
 use Rattle.sc_prep.proofs.Terms.{AllPass, AreApart, AreContents, AreOnceHeld, ArePlaced, ArePlainPaths, CanBeShown, Cause, Comes, ComesInside, Cond, Content, Contents, Context, Denotes, EntersAt, Extends, Fault, FileId, Files, Includes, IsBegun, IsBetweenRuns, IsCond, IsConfig, IsContent, IsContext, IsHeldContent, IsHeldWalk, IsOrdinary, IsOutcomeOf, IsReady, IsRefused, IsSound, IsStored, IsTable, Keeps, Leads, Machine, MacroTable, MomentsHave, Owns, OwnsList, PlainEach, Pre, Prepared, RefusesEach, Sets, Simulates, Space, Standard, State, Stop, StopsAmong, StopsAtPlace, Token, Walk, any_token, arities_of, content_at, context_of, end_of_file, end_place, entered, fault_at, faults_at, file_with, first_place, found_or, has_no_newline, has_none, initial_macros, initial_state, is_accepted, is_empty, is_plain, items_at, macros_at, option_to_list, seen, seen_fault, seen_place, start, text_at, unwrap_or}
+use Rattle.sc_prep.specs.New.{IsNew}
+use Rattle.sc_prep.specs.Pragmas.{HasNoPragma}
 use Rattle.sc_prep.proofs.Texts.{holds-none}
 use Rattle.sc_prep.specs.declared.content.Content.TheVariants as content
 use Rattle.sc_prep.specs.Includes.{elsewhere, inert}
@@ -169,22 +171,9 @@ end-inside standard names files (content.Refused cause place) held = held
 
 -- ---- the walk before the first line
 
--- nothing was read, put out or refused, and each configuration starts with the first macros
-pub record IsNew (s : Sets) (space : Space) (names files : List (List ℕ)) (walk : Walk) : Type 0 where
-  pub arities : s.arities ≡ arities_of space
-  pub owns : Owns s walk
-  pub table : IsTable s names walk.table
-  pub gathered : walk.runs.gathered ≡ []
-  pub held : walk.runs.held.items ≡ []
-  pub read : walk.runs.read ≡ []
-  pub once : walk.once.items ≡ []
-  pub list : walk.prepared.list ≡ []
-  pub faults : walk.prepared.faults.items ≡ []
-  pub starts : (main config : List ℕ) → IsConfig s.arities config → Simulates s names files walk config (start (initial_state space main config))
-
 -- the walk that was made with the first macros of a space
 pub begins-new : {s : Sets} {before names : List (List ℕ)} {walk : Walk} {table : MacroTable} (space : Space) (files : List (List ℕ)) → s.arities ≡ arities_of space → Owns s walk
-    → (walk.runs.gathered ≡ []) × (walk.runs.held.items ≡ []) × (walk.runs.read ≡ []) × (walk.once.items ≡ []) × (walk.prepared.list ≡ []) × (walk.prepared.faults.items ≡ []) → walk.table ≡ table → ((s : Sets) → s.arities ≡ arities_of space → IsTable s before table)
+    → (walk.runs.gathered ≡ []) × (walk.runs.held.items ≡ []) × HasNoPragma s walk.runs.pragmas × (walk.runs.read ≡ []) × (walk.once.items ≡ []) × (walk.prepared.list ≡ []) × (walk.prepared.faults.items ≡ []) → walk.table ≡ table → ((s : Sets) → s.arities ≡ arities_of space → IsTable s before table)
     → ((s : Sets) (config name : List ℕ) → s.arities ≡ arities_of space → IsConfig s.arities config → macros_at s before table config name ≡ initial_macros space config name) → Extends before names
     → ((names files : List (List ℕ)) (config : List ℕ) (first : State) → IsConfig s.arities config → IsBegun s names table config first → Simulates s names files walk config (start first))
     → IsNew s space names files walk
@@ -194,10 +183,11 @@ begins-new {s} {before} {names} {walk} {table} space files arities owns empty sa
   table = subst (IsTable s names) (sym same) (IsTable-Extends grows (is s arities));
   gathered = empty.0;
   held = empty.1;
-  read = empty.2;
-  once = empty.3;
-  list = empty.4;
-  faults = empty.5;
+  pragmas = empty.2;
+  read = empty.3;
+  once = empty.4;
+  list = empty.5;
+  faults = empty.6;
   starts = λ main config listed.
       starts names files config (initial_state space main config) listed (begins-as space main config grows (is s arities) (λ name. initial s config name arities listed));
 }
@@ -205,7 +195,7 @@ begins-new {s} {before} {names} {walk} {table} space files arities owns empty sa
 module _ {s : Sets} {space : Space} {names files : List (List ℕ)} {walk : Walk} (fresh : IsNew s space names files walk) where
   held-new : IsHeldWalk names (length files) any_token walk
   held-new = record {
-    runs = holds-none fresh.gathered fresh.held fresh.read names (length files);
+    runs = holds-none fresh.gathered fresh.held fresh.read names (length files) fresh.pragmas;
     list = subst (ArePlaced names (length files)) (sym fresh.list) (λ k d h. absurd (omega (arith, h)));
     passed = subst (AllPass any_token) (sym fresh.list) (λ k d h. absurd (omega (arith, h)));
     faults = subst (All (λ (f : base.Fault). f.place.file.0 < length files)) (sym fresh.faults) (λ k d h. absurd (omega (arith, h)));

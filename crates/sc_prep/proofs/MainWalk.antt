@@ -38,7 +38,7 @@ module _ (s : Sets) (names files : List (List ℕ)) (p : Prepared) (space : Spac
   entered-ordinary (enters f (Ok t) acting named there again walks) outcome runs text = record {
     answer = Ok t.output;
     preprocessed = record { end = Ok t; walked = includes-main f named there walks; is = refl };
-    stands = ((text-empty _ _ _ _ (enters-run walks) (text refl).text).1, outcome.fault);
+    stands = ((text-empty _ _ _ _ _ (enters-run walks) (text refl).text).1, outcome.fault);
     live = outcome.live;
   }
   entered-ordinary (enters f (Err fault) acting named there again walks) outcome runs text = record {

@@ -7,19 +7,21 @@ use Rattle.sc_prep.proofs.OnceLemmas.{behind-once, behind-other}
 use Rattle.sc_prep.proofs.Terms.{Failure, HasText, Hidden, Keeps, Line, MarksFile, OnceFile, Owns, Place, RunAt, Sets, Simulates, SimulatesStep, Standard, State, Token, Walk, acts, is_once, once_at, plain_by, same_bytes, seen_line, state_behind, text_at}
 use Rattle.sc_prep.proofs.WalkMoves.{owns-kept, simulates-kept}
 use Rattle.sc_prep.specs.Gathered.{refused, settling}
+use Rattle.sc_prep.specs.Pragmas.{Awaited}
 
 -- what a pragma leaves as it is
 behind-macros : (b : Bool) (l : Line) (s : State) (name : List ℕ) → (if b then state_behind s l directive.Pragma s.macros else s).macros name ≡ s.macros name
 behind-macros true l s name = refl
 behind-macros false l s name = refl
 
-behind-text : (l : Line) (s : State) (gathered : List (Hidden Place)) (list : List model.Token) (faults : List (Failure Place)) → HasText s gathered list faults → HasText (state_behind s l directive.Pragma s.macros) gathered list faults
-behind-text l s gathered list _ (settling before new out left run settles all is) = settling before new out left run settles all is
-behind-text l s gathered list _ (refused before new failure run is) = refused before new failure run is
+behind-text : (l : Line) (s : State) (gathered : List (Hidden Place)) (list : List model.Token) (awaited : Awaited) (faults : List (Failure Place)) → HasText s gathered list awaited faults
+    → HasText (state_behind s l directive.Pragma s.macros) gathered list awaited faults
+behind-text l s gathered list awaited _ (settling before new out left run settles all is behind) = settling before new out left run settles all is behind
+behind-text l s gathered list awaited _ (refused before new failure run is) = refused before new failure run is
 
 behind-run : {s : Sets} {names files : List (List ℕ)} (w : Walk) (c : List ℕ) (b : Bool) (l : Line) (state : State) → RunAt s names files w.runs w.prepared.list c state
     → RunAt s names files w.runs w.prepared.list c (if b then state_behind state l directive.Pragma state.macros else state)
-behind-run w c true l state at = record { run = at.run; text = behind-text l state _ _ _ at.text }
+behind-run w c true l state at = record { run = at.run; awaited = at.awaited; awaits = at.awaits; text = behind-text l state _ _ _ _ at.text }
 behind-run w c false l state at = at
 
 -- its file is marked in the configurations that act

@@ -6,6 +6,7 @@ use Rattle.sc_model.specs.Token.{Place, Token}
 use Rattle.sc_prep.proofs.Facts.{All-append, All-cons, All-from_recursion, All-head, All-map, All-nil, All-tail, All-weaker, PlainOption, PlainToken, PlainVariable, and_parts, initial-one_line, ne_eqb, not-true, map-append, not_from_false, or_from, text-stays_on_one_line}
 use Rattle.sc_prep.proofs.Terms.{AllByRecursion as Every, AreOneLine, Failure, HasText, Hidden, IsInRange, IsOneLine, IsPlainToken, IsSound, IsSoundVariable, Macros, Settles, Space, State, TextExpands, VariableOption, has_no_newline, initial_macros, is_date_byte, list_all, place_alone, token_of, unhidden}
 use Rattle.sc_prep.specs.Gathered.{refused, settling}
+use Rattle.sc_prep.specs.Pragmas.{Awaited}
 
 pub spelled-plain : (ts : List Token) → Every IsPlainToken ts → All PlainToken ts
 spelled-plain ts plain = All-weaker IsPlainToken PlainToken (λ t p. p.spelling) ts (All-from_recursion IsPlainToken ts plain)
@@ -27,14 +28,14 @@ all-parts P [] ys all = (All-nil P, all)
 all-parts P (x ∷ xs) ys all = let rest = all-parts P xs ys (All-tail P x (xs ++ ys) all) in (All-cons P x xs (All-head P x (xs ++ ys) all) rest.0, rest.1)
 
 -- what is gathered of a run that nothing holds
-pub text-plain : (s : State) → AreOneLine s.macros → Every IsPlainToken s.run → (gathered : List (Hidden Place)) (list : List Token) (faults : List (Failure Place)) → faults ≡ [] → HasText s gathered list faults
+pub text-plain : (s : State) → AreOneLine s.macros → Every IsPlainToken s.run → (gathered : List (Hidden Place)) (list : List Token) (awaited : Awaited) (faults : List (Failure Place)) → faults ≡ [] → HasText s gathered list awaited faults
     → All (IsOneLine place_alone) gathered
-text-plain s lists plain gathered list _ none (settling before new out left run settles all is) =
+text-plain s lists plain gathered list awaited _ none (settling before new out left run settles all is behind) =
     let whole = All-from_recursion IsPlainToken s.run plain in
     let shown : All (IsOneLine place_alone) (map unhidden s.run) = All-map (IsOneLine place_alone) unhidden s.run (λ k t h. let p = whole k t h in record { spelling = p.spelling; file = p.file }) in
     let parts = all-parts (IsOneLine place_alone) (map unhidden before) (map unhidden new) (subst (All (IsOneLine place_alone)) (ap (map unhidden) run ∙ map-append unhidden before new) shown) in
     subst (All (IsOneLine place_alone)) (sym all) (All-append (IsOneLine place_alone) left (map unhidden new) (settles-plain s.macros lists (map unhidden before) out left parts.0 settles).1 parts.1)
-text-plain s lists plain gathered list _ none (refused before new failure run is) = absurd (cc)
+text-plain s lists plain gathered list awaited _ none (refused before new failure run is) = absurd (cc)
 
 -- ---- the macros with which a configuration starts
 

@@ -7,9 +7,11 @@ use Rattle.sc_base.specs.declared.place.Place.{Place}
 use Rattle.sc_expand.proofs.AlikeLemmas.{AreAlike-Keeps, AreAlikeFaults-Keeps, all-back}
 use Rattle.sc_expand.proofs.ClosingLemmas.{Adds, added, left_out}
 use Rattle.sc_expand.specs.Closing.{IsClosed}
+use Rattle.c11_macros.specs.Text.{fault_of}
+use Rattle.sc_expand.specs.Moved.{moved_failure}
 use Rattle.sc_expand.specs.Seen.{failures_at, seen_failure}
 use Rattle.sc_prep.proofs.Facts.{All-at, All-map, All-nil, All-push, IsConfig-Keeps, IsConfig-kept, faults_at-Keeps, faults_at-append, items_at-Keeps, items_at-append, map-append, none-told, take-next}
-use Rattle.sc_prep.proofs.Terms.{Cond, Denotes, Expanded, Failure, IsCond, IsConfig, IsNever, IsPart, IsWithin, Keeps, RefusesEach, Sets, Walk, fault_items, faults_at, has_none, is_empty, items_at}
+use Rattle.sc_prep.proofs.Terms.{Cond, Denotes, Expanded, Failure, IsCond, IsConfig, IsNever, IsPart, IsWithin, Keeps, RefusesEach, Sets, Walk, fault_items, faults_at, has_none, is_empty, items_at, seen_fault, seen_place}
 use Rattle.sc_subst.specs.declared.hidden.Hidden.{Hidden}
 
 pub denotes-as : {s : Sets} {a : ℕ} (f g : List ℕ → Bool) → ((c : List ℕ) → IsConfig s.arities c → f c ≡ g c) → Denotes s a f → Denotes s a g
@@ -110,6 +112,11 @@ module _ {T : Type 0} where
       subst (λ xs. IsWithin first xs (first.has by.0) new next) (sym (take-next items i (cond, x) at)) (within-next by part (cond, x) before keeps was part_is adds)
 
 -- ---- faults as items
+
+-- faults, as failures of the text
+pub seen-told : (files : List (List ℕ)) (fs : List Fault) → map (seen_fault files) fs ≡ map fault_of (map (moved_failure (seen_place files)) (map seen_failure fs))
+seen-told files [] = refl
+seen-told files (f ∷ fs) = ap (λ gs. seen_fault files f ∷ gs) (seen-told files fs)
 
 pub fault-items : (s : Sets) (faults : List Fault) (c : List ℕ) → items_at s (fault_items faults) c ≡ failures_at s faults c
 fault-items s [] c = refl

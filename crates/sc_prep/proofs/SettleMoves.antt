@@ -19,11 +19,12 @@ use Rattle.sc_prep.proofs.Facts.{All-append, All-nil, Keeps-trans, and_parts, Ex
 use Rattle.sc_prep.proofs.Grown.{held-grown, plain-grown, shown-before, simulates-grown}
 use Rattle.sc_prep.proofs.Plain.{settles-plain, text-plain}
 use Rattle.sc_prep.proofs.PlainRuns.{unfaulty}
+use Rattle.sc_prep.proofs.PragmaMoves.{awaits-kept}
 use Rattle.sc_prep.proofs.RunLemmas.{part-All}
-use Rattle.sc_prep.proofs.SettledText.{settled-expands, text-as, text-held, text-refused, text-settles}
+use Rattle.sc_prep.proofs.SettledText.{settled-expands, text-as, text-awaits, text-held, text-refused, text-settles}
 use Rattle.sc_prep.proofs.Stopping.{stops-as}
-use Rattle.sc_prep.proofs.Terms.{AllPass, Comes, Cond, Denotes, Expands, Extends, Failure, HasSettled, HasText, Hidden, IsAsked, IsCond, IsConfig, IsHeldHidden, IsHeldWalk, IsPlainState, IsPlaced, IsStored, IsTable, Keeps, KeepsSettled, LineStage, Machine, Macros, Name, Owns, PlainEach, Provenance, Sets, Settled, Settles, Simulates, StandApart, Stop, StopsAtPlace, StopsBy, StopsStage, Walk, any_machine, any_token, faults_at, has_none, held_at, hidden_at, is_empty, is_plain, items_at, macros_at, place_alone, seen, seen_hidden, seen_place, token_of, tokens_read}
-use Rattle.sc_prep.proofs.Texts.{held_at-append, hidden_at-append, items_seen-append}
+use Rattle.sc_prep.proofs.Terms.{AllPass, Awaited, AwaitsAt, Comes, Cond, Denotes, Expands, Extends, Failure, HasSettled, HasText, Hidden, IsAsked, IsCond, IsConfig, IsHeldHidden, IsHeldWalk, IsPlainState, IsPlaced, IsStored, IsTable, Keeps, KeepsSettled, LineStage, Machine, Macros, Name, Owns, PlainEach, Provenance, Sets, Settled, Settles, Simulates, StandApart, Stop, StopsAtPlace, StopsBy, StopsStage, Walk, any_machine, any_token, awaits, faults_at, has_none, held_at, hidden_at, is_empty, is_plain, items_at, macros_at, outside, place_alone, seen, seen_hidden, seen_place, token_of, tokens_read, tokens_within}
+use Rattle.sc_prep.proofs.Texts.{held_at-append, hidden-grown, items_at-All, hidden_at-append, items_seen-append}
 use Rattle.sc_prep.proofs.WalkMoves.{owns-kept, simulates-kept}
 use Rattle.sc_subst.specs.declared.hidden.Hidden as base_hidden
 
@@ -37,7 +38,7 @@ module _ (files : List (List ℕ)) {names more : List (List ℕ)} {old new : Set
   owns-more : Owns new (with-sets w hides)
   owns-more =
       let kept = owns-kept keeps w stored.owns in
-      record { group = kept.group; acting = kept.acting; sections = kept.sections; runs = record { gathered = kept.runs.gathered; held = kept.runs.held; read = kept.runs.read }; once = kept.once; prepared = kept.prepared }
+      record { group = kept.group; acting = kept.acting; sections = kept.sections; runs = record { gathered = kept.runs.gathered; held = kept.runs.held; pragmas = kept.runs.pragmas; read = kept.runs.read }; once = kept.once; prepared = kept.prepared }
 
   pub stays-stage : LineStage files names old w [] more new (with-sets w hides) (λ config m n. n ≡ m)
   stays-stage = record {
@@ -90,7 +91,7 @@ idle-nothing is (running.refused failure one left d) = absurd (true≢false is)
 module _ (files : List (List ℕ)) {names more : List (List ℕ)} {old mid new : Sets} (keeps : Keeps old mid) (later : Keeps mid new) (grows : Extends names more) (w next : Walk) {hides : List (List Name)} (hides_grow : Extends w.runs.sets hides)
     (live asked : Cond) (s : Settled) (stored : IsStored old names (length files) w) (ask : IsAsked old w live.0 asked.0)
     (settles : IsSettled (stores old names w.runs.sets) (stores mid more hides) files (macros_at old names w.table) w.runs.gathered asked.0 s) (known : IsHeldSettled (stores mid more hides) (length files) s)
-    (puts : KeepsSettled mid (with-sets w hides) live.0 asked.0 s new next) where
+    (puts : KeepsSettled more mid (with-sets w hides) live.0 asked.0 s new next) where
   abbrev v : Walk
   v = with-sets w hides
 
@@ -119,19 +120,39 @@ module _ (files : List (List ℕ)) {names more : List (List ℕ)} {old mid new :
     done-is : seen_text more files (items_at mid s.done c) ≡ map token_of (shown (items_at mid settles.out c))
     done-is = ap (λ xs. seen_text more files (items_at mid xs c)) settles.tokens ∙ (ap (seen_text more files) (items-bared mid settles.out c) ∙ seen-out more files hides (items_at mid settles.out c))
 
-    done-now : items_at new puts.done c ≡ (if old.has asked.0 c && has_none mid s.held.items c then items_at mid s.done c else [])
-    done-now = puts.puts.at c listed_mid ∙ ap (λ b. if b && has_none mid s.held.items c then items_at mid s.done c else []) (keeps.at asked.0 c ask.own listed)
+    listed_then : IsConfig puts.middle.arities c
+    listed_then = IsConfig-Keeps puts.until listed_mid
 
-    list-now : (a n : Bool) → old.has asked.0 c ≡ a → has_none mid s.held.items c ≡ n → seen_text more files (items_at new next.prepared.list c)
-        ≡ seen_text more files (items_at new w.prepared.list c) ++ (if a && n then map token_of (shown (items_at mid settles.out c)) else [])
-    list-now a n is_asked is_none =
-        ap (λ xs. seen_text more files (items_at new xs c)) puts.list
-        ∙ (items_seen-append new more files w.prepared.list puts.done c
-        ∙ ap (λ xs. seen_text more files (items_at new w.prepared.list c) ++ xs) (ap (seen_text more files) (done-now ∙ (λ i. if is_asked i && is_none i then items_at mid s.done c else [])) ∙ by (a && n)))
+    -- what is put out if it is none of an operator
+    done-now : (if puts.middle.has puts.free c then items_at puts.middle s.done c else []) ≡ (if old.has asked.0 c && has_none mid s.held.items c then items_at mid s.done c else [])
+    done-now = (λ i. if (puts.is_free.at c listed_then ∙ ap (λ b. b && has_none mid s.held.items c) (keeps.at asked.0 c ask.own listed)) i then items_at-Keeps s.done c puts.until known.own listed_mid i else [])
+
+    abbrev tokens : List Token
+    tokens = tokens_within more files puts.middle s.done puts.free c
+
+    tokens-now : (a n : Bool) → old.has asked.0 c ≡ a → has_none mid s.held.items c ≡ n → tokens ≡ (if a && n then map token_of (shown (items_at mid settles.out c)) else [])
+    tokens-now a n is_asked is_none =
+        shown-if (puts.middle.has puts.free c) (items_at puts.middle s.done c) ∙ (ap (seen_text more files) (done-now ∙ (λ i. if is_asked i && is_none i then items_at mid s.done c else [])) ∙ by (a && n))
       where
+        shown-if : (b : Bool) (ts : List base_token.Token) → (if b then seen_text more files ts else []) ≡ seen_text more files (if b then ts else [])
+        shown-if true ts = refl
+        shown-if false ts = refl
+
         by : (b : Bool) → seen_text more files (if b then items_at mid s.done c else []) ≡ (if b then map token_of (shown (items_at mid settles.out c)) else [])
         by true = done-is
         by false = refl
+
+    module _ (awaited : Awaited) (at : AwaitsAt old files w.runs.pragmas c awaited) where
+      at-then : AwaitsAt puts.middle files w.runs.pragmas c awaited
+      at-then = awaits-kept (Keeps-trans keeps puts.until) stored.owns.runs.pragmas listed at
+
+      awaits-now : AwaitsAt new files next.runs.pragmas c (awaits awaited tokens)
+      awaits-now = puts.puts.awaits files c awaited listed_then at-then
+
+      list-now : seen_text more files (items_at new next.prepared.list c) ≡ seen_text more files (items_at new w.prepared.list c) ++ outside awaited tokens
+      list-now =
+          ap (λ xs. seen_text more files (items_at new xs c)) puts.puts.is
+          ∙ (items_seen-append new more files w.prepared.list puts.puts.kept c ∙ ap (λ xs. seen_text more files (items_at new w.prepared.list c) ++ xs) (puts.puts.puts files c awaited listed_then at-then))
 
     held-now : held_at new files next.runs.held.items c ≡ held_at new files w.runs.held.items c ++ map (moved_failure (seen_place files)) (failures_at mid s.held.items c)
     held-now =
@@ -160,15 +181,27 @@ module _ (files : List (List ℕ)) {names more : List (List ℕ)} {old mid new :
       put-before : seen_text more files (items_at new w.prepared.list c) ≡ seen_text names files (items_at old w.prepared.list c)
       put-before = shown-before files grows (Keeps-trans keeps later) w.prepared.list c stored.owns.prepared.list stored.held.list listed
 
-      abbrev TextNow : Type 0
-      TextNow = HasText m.state (hidden_at new more files hides next.runs.gathered c) (seen_text more files (items_at new next.prepared.list c)) (held_at new files next.runs.held.items c)
+      -- what was gathered, as the stores have grown
+      gathered-before : hidden_at mid more files hides w.runs.gathered c ≡ text-before
+      gathered-before =
+          hidden-grown grows (Extends-refl files) w.runs hides_grow (items_at mid w.runs.gathered c) (items_at-All (λ (h : base_hidden.Hidden). IsHeldHidden names w.runs.sets h × (h.token.place.file.0 < length files)) mid w.runs.gathered c stored.held.runs.gathered)
+          ∙ ap (λ hs. map (moved (seen_place files)) (map (seen_hidden names w.runs.sets) hs)) (items_at-Keeps w.runs.gathered c keeps stored.owns.runs.gathered listed)
+
+      abbrev TextNow : Awaited → Type 0
+      TextNow awaited = HasText m.state (hidden_at new more files hides next.runs.gathered c) (seen_text more files (items_at new next.prepared.list c)) (awaits awaited tokens) (held_at new files next.runs.held.items c)
 
       module _ (none : m.fault ≡ None) where
         macros : macros_at old names w.table c ≡ m.state.macros
         macros = λ i name. simulates.macros none name i
 
+        abbrev was_awaited : Awaited
+        was_awaited = (simulates.text none).awaited
+
+        abbrev was_at : AwaitsAt old files w.runs.pragmas c was_awaited
+        was_at = (simulates.text none).awaits
+
         module _ (here : old.has asked.0 c ≡ true) where
-          has-before : HasText m.state text-before (seen_text names files (items_at old w.prepared.list c)) []
+          has-before : HasText m.state text-before (seen_text names files (items_at old w.prepared.list c)) was_awaited []
           has-before = text-as refl refl (sym (not-held here)) (simulates.text none).text
 
           settles-here : Settles (provenance_of files) (macros_at old names w.table c) (seen_at (stores old names w.runs.sets) w.runs.gathered c) (seen_at (stores mid more hides) settles.out c) (seen_at (stores mid more hides) s.rest c)
@@ -176,18 +209,20 @@ module _ (files : List (List ℕ)) {names more : List (List ℕ)} {old mid new :
           settles-here d = subst (λ ms. Settles place_alone ms text-before (shown (items_at mid settles.out c)) (shown (items_at mid s.rest c))) macros (settles-moved (seen_place files) (places-kept files) (macros_at old names w.table c) d)
 
           asked-text : (b : Bool) → b ≡ true → IsDone (provenance_of files) (macros_at old names w.table c) (seen_at (stores old names w.runs.sets) w.runs.gathered c) (seen_at (stores mid more hides) settles.out c) (seen_at (stores mid more hides) s.rest c) (failures_at mid s.held.items c) b
-              → TextNow
+              → TextNow was_awaited
           asked-text b is (running.unasked clean left) = absurd (true≢false (sym is))
           asked-text b is (running.settled clean d) =
-              text-as (gathered-now true true here (ask.within c listed here) ∙ append-nil (shown (items_at mid s.rest c)))
-              (list-now true true here (empty-seen seen_failure (faults_at mid s.held.items c) clean) ∙ ap (λ ts. ts ++ map token_of (shown (items_at mid settles.out c))) put-before)
+              let done = map token_of (shown (items_at mid settles.out c)) in
+              let read = tokens-now true true here (empty-seen seen_failure (faults_at mid s.held.items c) clean) in
+              text-awaits (ap (awaits was_awaited) read)
+              (text-as (gathered-now true true here (ask.within c listed here) ∙ append-nil (shown (items_at mid s.rest c)))
+              (list-now was_awaited was_at ∙ (λ i. put-before i ++ outside was_awaited (read i)))
               (held-now ∙ (λ i. (held-before ∙ not-held here) i ++ map (moved_failure (seen_place files)) (clean i)))
-              (text-settles m.state text-before (seen_text names files (items_at old w.prepared.list c)) (shown (items_at mid settles.out c)) (shown (items_at mid s.rest c)) has-before (settles-here d))
+              (text-settles m.state text-before (seen_text names files (items_at old w.prepared.list c)) was_awaited (shown (items_at mid settles.out c)) (shown (items_at mid s.rest c)) has-before (settles-here d)))
           asked-text b is (running.refused failure one left d) =
-              text-as (gathered-now true true here (ask.within c listed here) ∙ (append-nil (shown (items_at mid s.rest c)) ∙ ap (map (moved (seen_place files))) left))
-              (list-now true false here (some-seen seen_failure (faults_at mid s.held.items c) failure [] one) ∙ (append-nil (seen_text more files (items_at new w.prepared.list c)) ∙ put-before))
+              text-as (gathered-now true true here (ask.within c listed here) ∙ (append-nil (shown (items_at mid s.rest c)) ∙ ap (map (moved (seen_place files))) left)) refl
               (held-now ∙ (λ i. (held-before ∙ not-held here) i ++ map (moved_failure (seen_place files)) (one i)))
-              (text-refused m.state text-before (seen_text names files (items_at old w.prepared.list c)) (moved_failure (seen_place files) failure) has-before
+              (text-refused m.state text-before (seen_text names files (items_at old w.prepared.list c)) was_awaited _ _ (moved_failure (seen_place files) failure) has-before
               (subst (λ ms. IsHeld place_alone ms text-before (moved_failure (seen_place files) failure)) macros (held-moved (seen_place files) (places-kept files) (macros_at old names w.table c) d)))
 
           -- what is put out is spelled on one line
@@ -196,7 +231,7 @@ module _ (files : List (List ℕ)) {names more : List (List ℕ)} {old mid new :
               → All (λ (t : base_token.Token). is_plain more t ≡ true) (items_at mid s.done c)
           asked-plain plain free b is (running.unasked clean left) = absurd (true≢false (sym is))
           asked-plain plain free b is (running.settled clean d) =
-              let gathered = text-plain m.state plain.macros plain.run text-before _ _ (not-held here) (simulates.text none).text in
+              let gathered = text-plain m.state plain.macros plain.run text-before _ _ _ (not-held here) (simulates.text none).text in
               plain-seen more files (items_at mid s.done c) (map token_of (shown (items_at mid settles.out c))) done-is (settles-plain m.state.macros plain.macros text-before _ _ gathered (settles-here d)).0
           asked-plain plain free b is (running.refused failure one left d) = absurd (true≢false (sym free ∙ some-seen seen_failure (faults_at mid s.held.items c) failure [] one))
 
@@ -204,20 +239,22 @@ module _ (files : List (List ℕ)) {names more : List (List ℕ)} {old mid new :
           idle-done : (failures_at mid s.held.items c ≡ []) × (seen_at (stores mid more hides) s.rest c ≡ [])
           idle-done = idle-nothing idle (settles.is c listed)
 
-          idle-text : (l : Bool) → old.has live.0 c ≡ l → TextNow
+          idle-text : (l : Bool) → old.has live.0 c ≡ l → TextNow was_awaited
           idle-text l is_live =
-              text-as (gathered-now false l idle is_live ∙ (ap (λ hs. map (moved (seen_place files)) hs ++ (if l && true then hidden_at mid more files hides w.runs.gathered c else [])) idle-done.1))
-              (list-now false (has_none mid s.held.items c) idle refl ∙ append-nil (seen_text more files (items_at new w.prepared.list c)))
-              (held-now ∙ (ap (λ fs. held_at new files w.runs.held.items c ++ map (moved_failure (seen_place files)) fs) idle-done.0 ∙ append-nil (held_at new files w.runs.held.items c)))
-              (by l is_live)
+              let read = tokens-now false (has_none mid s.held.items c) idle refl in
+              text-awaits (ap (awaits was_awaited) read)
+              (text-as (gathered-now false l idle is_live ∙ (ap (λ hs. map (moved (seen_place files)) hs ++ (if l && true then hidden_at mid more files hides w.runs.gathered c else [])) idle-done.1))
+              (list-now was_awaited was_at ∙ ((λ i. put-before i ++ outside was_awaited (read i)) ∙ append-nil (seen_text names files (items_at old w.prepared.list c))))
+              (held-now ∙ ((λ i. held-before i ++ map (moved_failure (seen_place files)) (idle-done.0 i)) ∙ append-nil (held_at old files w.runs.held.items c)))
+              (by l is_live))
             where
               by : (l : Bool) → old.has live.0 c ≡ l
-                  → HasText m.state (if l && true then hidden_at mid more files hides w.runs.gathered c else []) (seen_text more files (items_at new w.prepared.list c)) (held_at new files w.runs.held.items c)
-              by true is = text-as (ap shown (sym (items_at-Keeps w.runs.gathered c later first.simulates.owns.runs.gathered listed_mid))) refl refl (now.text none).text
-              by false is = text-held [] (λ empty. some-faults files (faults_at old w.runs.held.items c) (sym held-before ∙ empty)
-                  (ap (λ b. b && has_none old w.runs.held.items c) (sym (simulates.prepared.live ∙ ap is_none none)) ∙ (sym (ask.live.at c listed) ∙ is))) (now.text none).text
+                  → HasText m.state (if l && true then hidden_at mid more files hides w.runs.gathered c else []) (seen_text names files (items_at old w.prepared.list c)) was_awaited (held_at old files w.runs.held.items c)
+              by true is = text-as gathered-before refl refl (simulates.text none).text
+              by false is = text-held [] (λ empty. some-faults files (faults_at old w.runs.held.items c) empty
+                  (ap (λ b. b && has_none old w.runs.held.items c) (sym (simulates.prepared.live ∙ ap is_none none)) ∙ (sym (ask.live.at c listed) ∙ is))) (simulates.text none).text
 
-        text-then : (b : Bool) → old.has asked.0 c ≡ b → TextNow
+        text-then : (b : Bool) → old.has asked.0 c ≡ b → TextNow was_awaited
         text-then true here = asked-text here (old.has asked.0 c) here (settles.is c listed)
         text-then false idle = idle-text idle (old.has live.0 c) refl
 
@@ -227,7 +264,12 @@ module _ (files : List (List ℕ)) {names more : List (List ℕ)} {old mid new :
         acting = now.acting;
         sections = now.sections;
         prepared = record { live = now.prepared.live; fault = now.prepared.fault };
-        text = λ none. record { run = (now.text none).run; text = text-then none (old.has asked.0 c) refl };
+        text = λ none. record {
+          run = (now.text none).run;
+          awaited = awaits (was_awaited none) tokens;
+          awaits = awaits-now (was_awaited none) (was_at none);
+          text = text-then none (old.has asked.0 c) refl;
+        };
         macros = now.macros;
         once = now.once;
       })
@@ -281,11 +323,12 @@ module _ (files : List (List ℕ)) {names more : List (List ℕ)} {old mid new :
         runs = record {
           gathered = subst (All H) (sym puts.gathered) (All-append H s.rest puts.left (λ k d h. later.own _ (known.rest.own k d h)) puts.stays.part.own);
           held = subst (All F) (sym puts.held) (All-append F w.runs.held.items s.held.items kept.runs.held (λ k d h. later.own _ (known.faults_own k d h)));
+          pragmas = puts.puts.owns;
           read = kept.runs.read;
         };
         once = kept.once;
         prepared = record {
-          list = subst (All T) (sym puts.list) (All-append T w.prepared.list puts.done kept.prepared.list puts.puts.part.own);
+          list = subst (All T) (sym puts.puts.is) (All-append T w.prepared.list puts.puts.kept kept.prepared.list puts.puts.part.own);
           faults = kept.prepared.faults;
           live = kept.prepared.live;
         };
@@ -302,9 +345,10 @@ module _ (files : List (List ℕ)) {names more : List (List ℕ)} {old mid new :
           gathered = subst (All (λ (item : Cond × base_hidden.Hidden). H item.1)) (sym puts.gathered) (All-append (λ (item : Cond × base_hidden.Hidden). H item.1) s.rest puts.left
               (λ k d h. let t = known.rest.held k d h in (t.held, t.file)) (part-All H puts.stays.part was.runs.gathered));
           held = subst (All F) (sym puts.held) (All-append F w.runs.held.items s.held.items was.runs.held known.faults_placed);
+          pragmas = puts.puts.placed (length files) known.placed was.runs.pragmas;
           read = was.runs.read;
         };
-        list = subst (All (λ (item : Cond × base_token.Token). P item.1)) (sym puts.list) (All-append (λ (item : Cond × base_token.Token). P item.1) w.prepared.list puts.done was.list
+        list = subst (All (λ (item : Cond × base_token.Token). P item.1)) (sym puts.puts.is) (All-append (λ (item : Cond × base_token.Token). P item.1) w.prepared.list puts.puts.kept was.list
             (part-All P puts.puts.part (λ k d h. record { held = known.held k d h; file = known.placed k d h })));
         passed = λ k d h. refl;
         faults = was.faults;
@@ -314,11 +358,12 @@ module _ (files : List (List ℕ)) {names more : List (List ℕ)} {old mid new :
   still-plain : PlainEach old names files w any_machine → AllPass (is_plain names) w.prepared.list → AllPass (is_plain more) next.prepared.list
   still-plain each was =
       let Q : Cond × base_token.Token → Type 0 = λ item. is_plain more item.1 ≡ true in
-      subst (All Q) (sym puts.list)
-      (All-append Q w.prepared.list puts.done (plain-grown grows (length files) w.prepared.list stored.held.list was)
-      (plain-by new more puts.done (λ c last.
+      subst (All Q) (sym puts.puts.is)
+      (All-append Q w.prepared.list puts.puts.kept (plain-grown grows (length files) w.prepared.list stored.held.list was)
+      (plain-by new more puts.puts.kept (λ c last.
       let listed = IsConfig-kept (Keeps-trans keeps later) last in
-      subst (All (λ (t : base_token.Token). is_plain more t ≡ true)) (sym (done-now c listed)) (plain-at c listed each (old.has asked.0 c) (has_none mid s.held.items c) refl refl)) puts.puts.part.some))
+      puts.puts.among (is_plain more) c (listed_then c listed)
+      (subst (All (λ (t : base_token.Token). is_plain more t ≡ true)) (sym (done-now c listed)) (plain-at c listed each (old.has asked.0 c) (has_none mid s.held.items c) refl refl))) puts.puts.part.some))
 
   pub settled-stage : LineStage files names old w [] more new next (λ config m n. n ≡ m)
   settled-stage = record {

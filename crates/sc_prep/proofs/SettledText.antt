@@ -13,52 +13,72 @@ use Rattle.c11_macros.specs.Text.{TextExpands, fault_of, place_alone, text_of_an
 use Rattle.sc_expand.proofs.SettledEnds.{settles-closed}
 use Rattle.sc_expand.specs.Open.{closed}
 use Rattle.sc_model.specs.Token.{Place, Token}
+use Rattle.sc_prep.proofs.PragmaMoves.{awaits-append, outside-append}
 use Rattle.sc_prep.specs.Gathered.{HasText, refused, settling}
+use Rattle.sc_prep.specs.Pragmas.{Awaited, awaits, no_operator, outside}
 
 abbrev hidden : List Token → List (Hidden Place)
 hidden ts = map unhidden ts
 
 -- nothing was put out of it
-pub text-begins : (s : State) (gathered : List (Hidden Place)) (list : List Token) → gathered ≡ hidden s.run → list ≡ s.output → HasText s gathered list []
-text-begins s gathered list all is = settling [] s.run [] [] refl (whole begins) all (is ∙ sym (append-nil s.output))
+pub text-begins : (s : State) (gathered : List (Hidden Place)) (list : List Token) → gathered ≡ hidden s.run → list ≡ s.output → HasText s gathered list no_operator []
+text-begins s gathered list all is = settling [] s.run [] [] refl (whole begins) all (is ∙ sym (append-nil s.output)) refl
 
 -- the same lists
-pub text-as : {s : State} {gathered tokens : List (Hidden Place)} {list put : List Token} {faults told : List (Failure Place)} → tokens ≡ gathered → put ≡ list → told ≡ faults
-    → HasText s gathered list faults → HasText s tokens put told
-text-as {s} {gathered} {list = list} {put} {told = told} same_tokens same_put same_faults has =
-    subst (λ ts. HasText s ts put told) (sym same_tokens) (subst (λ ts. HasText s gathered ts told) (sym same_put) (subst (HasText s gathered list) (sym same_faults) has))
+pub text-as : {s : State} {gathered tokens : List (Hidden Place)} {list put : List Token} {awaited : Awaited} {faults told : List (Failure Place)} → tokens ≡ gathered → put ≡ list → told ≡ faults
+    → HasText s gathered list awaited faults → HasText s tokens put awaited told
+text-as {s} {gathered} {list = list} {put} {awaited} {told = told} same_tokens same_put same_faults has =
+    subst (λ ts. HasText s ts put awaited told) (sym same_tokens) (subst (λ ts. HasText s gathered ts awaited told) (sym same_put) (subst (HasText s gathered list awaited) (sym same_faults) has))
+
+pub text-awaits : {s : State} {gathered : List (Hidden Place)} {list : List Token} {awaited now : Awaited} {faults : List (Failure Place)} → now ≡ awaited → HasText s gathered list awaited faults → HasText s gathered list now faults
+text-awaits {s} {gathered} {list} {faults = faults} same has = subst (λ a. HasText s gathered list a faults) (sym same) has
 
 -- more is gathered
 run-more : (s : State) (line : Line) (before new : List Token) → s.run ≡ before ++ new → (with_text s line).run ≡ before ++ (new ++ line.tokens)
 run-more s line before new run = ap (λ ts. ts ++ line.tokens) run ∙ append_assoc before new line.tokens
 
-pub text-more : (s : State) (line : Line) (gathered : List (Hidden Place)) (list : List Token) (faults : List (Failure Place)) → HasText s gathered list faults → HasText (with_text s line) (gathered ++ hidden line.tokens) list faults
-text-more s line gathered list _ (settling before new out left run settles all is) =
+pub text-more : (s : State) (line : Line) (gathered : List (Hidden Place)) (list : List Token) (awaited : Awaited) (faults : List (Failure Place)) → HasText s gathered list awaited faults
+    → HasText (with_text s line) (gathered ++ hidden line.tokens) list awaited faults
+text-more s line gathered list awaited _ (settling before new out left run settles all is behind) =
     settling before (new ++ line.tokens) out left (run-more s line before new run) settles
-    (ap (λ hs. hs ++ hidden line.tokens) all ∙ (append_assoc left (hidden new) (hidden line.tokens) ∙ ap (λ hs. left ++ hs) (sym (map-append unhidden new line.tokens)))) is
-text-more s line gathered list _ (refused before new failure run is) = refused before (new ++ line.tokens) failure (run-more s line before new run) is
+    (ap (λ hs. hs ++ hidden line.tokens) all ∙ (append_assoc left (hidden new) (hidden line.tokens) ∙ ap (λ hs. left ++ hs) (sym (map-append unhidden new line.tokens)))) is behind
+text-more s line gathered list awaited _ (refused before new failure run is) = refused before (new ++ line.tokens) failure (run-more s line before new run) is
 
 -- what is gathered doesn't count where a fault holds the run
-pub text-held : {s : State} {gathered : List (Hidden Place)} (tokens : List (Hidden Place)) {list : List Token} {faults : List (Failure Place)} → (faults ≡ [] → ⊥) → HasText s gathered list faults → HasText s tokens list faults
-text-held tokens some (settling before new out left run settles all is) = absurd (some refl)
+pub text-held : {s : State} {gathered : List (Hidden Place)} (tokens : List (Hidden Place)) {list : List Token} {awaited : Awaited} {faults : List (Failure Place)} → (faults ≡ [] → ⊥) → HasText s gathered list awaited faults
+    → HasText s tokens list awaited faults
+text-held tokens some (settling before new out left run settles all is behind) = absurd (some refl)
 text-held tokens some (refused before new failure run is) = refused before new failure run is
 
-module _ (s : State) (gathered : List (Hidden Place)) (list : List Token) where
+module _ (s : State) (gathered : List (Hidden Place)) (list : List Token) (awaited : Awaited) where
   all-run : (before new : List Token) → s.run ≡ before ++ new → hidden before ++ hidden new ≡ hidden s.run
   all-run before new run = sym (ap hidden run ∙ map-append unhidden before new)
 
+  -- what is put out behind the output, and what is awaited then
+  pub put-behind : (out done : List (Hidden Place)) → list ≡ s.output ++ outside no_operator (map token_of out) → awaited ≡ awaits no_operator (map token_of out)
+      → list ++ outside awaited (map token_of done) ≡ s.output ++ outside no_operator (map token_of (out ++ done))
+  put-behind out done is behind =
+      (λ i. is i ++ outside (behind i) (map token_of done))
+      ∙ (append_assoc s.output (outside no_operator (map token_of out)) (outside (awaits no_operator (map token_of out)) (map token_of done))
+      ∙ ap (λ ts. s.output ++ ts) (sym (ap (outside no_operator) (map-append token_of out done) ∙ outside-append no_operator (map token_of out) (map token_of done))))
+
+  pub awaits-behind : (out done : List (Hidden Place)) → awaited ≡ awaits no_operator (map token_of out) → awaits awaited (map token_of done) ≡ awaits no_operator (map token_of (out ++ done))
+  awaits-behind out done behind =
+      ap (λ a. awaits a (map token_of done)) behind ∙ sym (ap (awaits no_operator) (map-append token_of out done) ∙ awaits-append no_operator (map token_of out) (map token_of done))
+
   -- what is gathered settles again
-  pub text-settles : (done rest : List (Hidden Place)) → HasText s gathered list [] → Settles place_alone s.macros gathered done rest → HasText s rest (list ++ map token_of done) []
-  text-settles done rest (settling before new out left run settles all is) again =
+  pub text-settles : (done rest : List (Hidden Place)) → HasText s gathered list awaited [] → Settles place_alone s.macros gathered done rest
+      → HasText s rest (list ++ outside awaited (map token_of done)) (awaits awaited (map token_of done)) []
+  text-settles done rest (settling before new out left run settles all is behind) again =
       settling s.run [] (out ++ done) rest (sym (append-nil s.run))
       (subst (λ ts. Settles place_alone s.macros ts (out ++ done) rest) (all-run before new run)
       (settle-again place_alone s.macros (hidden before) (hidden new) settles (subst (λ ts. Settles place_alone s.macros ts done rest) all again)))
       (sym (append-nil rest))
-      (ap (λ ts. ts ++ map token_of done) is ∙ (append_assoc s.output (map token_of out) (map token_of done) ∙ ap (λ ts. s.output ++ ts) (sym (map-append token_of out done))))
+      (put-behind out done is behind) (awaits-behind out done behind)
 
   -- or is refused, whatever follows
-  pub text-refused : (failure : Failure Place) → HasText s gathered list [] → IsHeld place_alone s.macros gathered failure → HasText s [] list (failure ∷ [])
-  text-refused failure (settling before new out left run settles all is) fails =
+  pub text-refused : (put : List Token) (behind : Awaited) (failure : Failure Place) → HasText s gathered list awaited [] → IsHeld place_alone s.macros gathered failure → HasText s [] put behind (failure ∷ [])
+  text-refused put now failure (settling before new out left run settles all is behind) fails =
       refused s.run [] failure (sym (append-nil s.run))
       (subst (λ ts. IsHeld place_alone s.macros ts failure) (all-run before new run)
       (held-again place_alone s.macros (hidden before) (hidden new) settles (subst (λ ts. IsHeld place_alone s.macros ts failure) all fails)))
@@ -66,11 +86,12 @@ module _ (s : State) (gathered : List (Hidden Place)) (list : List Token) where
   -- ---- the run's end
 
   -- the run expands to what was put out of it, and what the gathered tokens become
-  pub text-expands : (r : Result (List (Hidden Place)) (Failure Place)) → HasText s gathered list [] → Expands place_alone s.macros gathered r
-      → (out : List (Hidden Place)) × (list ≡ s.output ++ map token_of out) × TextExpands s.macros s.run (text_of_answer (after_these out r))
-  text-expands r (settling before new out left run settles all is) expands = (
+  pub text-expands : (r : Result (List (Hidden Place)) (Failure Place)) → HasText s gathered list awaited [] → Expands place_alone s.macros gathered r
+      → (out : List (Hidden Place)) × (list ≡ s.output ++ outside no_operator (map token_of out)) × (awaited ≡ awaits no_operator (map token_of out)) × TextExpands s.macros s.run (text_of_answer (after_these out r))
+  text-expands r (settling before new out left run settles all is behind) expands = (
     out,
     is,
+    behind,
     record {
       answer = after_these out r;
       expands = subst (λ ts. Expands place_alone s.macros ts (after_these out r)) (all-run before new run)
@@ -80,7 +101,7 @@ module _ (s : State) (gathered : List (Hidden Place)) (list : List Token) where
   )
 
   -- or has the fault that holds it
-  pub text-fails : (failure : Failure Place) → HasText s gathered list (failure ∷ []) → TextExpands s.macros s.run (Err (fault_of failure))
+  pub text-fails : (failure : Failure Place) → HasText s gathered list awaited (failure ∷ []) → TextExpands s.macros s.run (Err (fault_of failure))
   text-fails failure (refused before new _ run is) = record {
     answer = Err failure;
     expands = subst (λ ts. Expands place_alone s.macros ts (Err failure)) (all-run before new run) (held-more place_alone s.macros (hidden new) is);
@@ -88,20 +109,21 @@ module _ (s : State) (gathered : List (Hidden Place)) (list : List Token) where
   }
 
 -- where nothing is left of it, or it has settled and nothing holds it
-pub data TextEnds (s : State) (gathered : List (Hidden Place)) (list : List Token) (faults : List (Failure Place)) : Type 0 where
-  puts : (out : List (Hidden Place)) → list ≡ s.output ++ map token_of out → faults ≡ [] → TextExpands s.macros s.run (text_of_answer (after_these out (closed gathered))) → TextEnds s gathered list faults
-  fails : (failure : Failure Place) → faults ≡ failure ∷ [] → gathered ≡ [] → TextExpands s.macros s.run (Err (fault_of failure)) → TextEnds s gathered list faults
+pub data TextEnds (s : State) (gathered : List (Hidden Place)) (list : List Token) (awaited : Awaited) (faults : List (Failure Place)) : Type 0 where
+  puts : (out : List (Hidden Place)) → list ≡ s.output ++ outside no_operator (map token_of out) → awaited ≡ awaits no_operator (map token_of out) → faults ≡ []
+      → TextExpands s.macros s.run (text_of_answer (after_these out (closed gathered))) → TextEnds s gathered list awaited faults
+  fails : (failure : Failure Place) → faults ≡ failure ∷ [] → gathered ≡ [] → TextExpands s.macros s.run (Err (fault_of failure)) → TextEnds s gathered list awaited faults
 
-pub text-ends : {s : State} {gathered : List (Hidden Place)} {list : List Token} {faults : List (Failure Place)} → (gathered ≡ []) ⊎ ((faults ≡ []) × Expands place_alone s.macros gathered (closed gathered)) → HasText s gathered list faults
-    → TextEnds s gathered list faults
-text-ends {s} {gathered} {list} ends (settling before new out left run settles all is) =
-    let at = text-expands s gathered list (closed gathered) (settling before new out left run settles all is) (by ends) in
-    puts at.0 at.1 refl at.2
+pub text-ends : {s : State} {gathered : List (Hidden Place)} {list : List Token} {awaited : Awaited} {faults : List (Failure Place)} → (gathered ≡ []) ⊎ ((faults ≡ []) × Expands place_alone s.macros gathered (closed gathered)) → HasText s gathered list awaited faults
+    → TextEnds s gathered list awaited faults
+text-ends {s} {gathered} {list} {awaited} ends (settling before new out left run settles all is behind) =
+    let at = text-expands s gathered list awaited (closed gathered) (settling before new out left run settles all is behind) (by ends) in
+    puts at.0 at.1 at.2 refl at.3
   where
     by : (gathered ≡ []) ⊎ (◌≡◌ {A = List (Failure Place)} [] [] × Expands place_alone s.macros gathered (closed gathered)) → Expands place_alone s.macros gathered (closed gathered)
     by (inl nothing) = subst (λ hs. Expands place_alone s.macros hs (closed hs)) (sym nothing) empty
     by (inr both) = both.1
-text-ends {s} {gathered} {list} (inl nothing) (refused before new failure run is) = fails failure refl nothing (text-fails s gathered list failure (refused before new failure run is))
+text-ends {s} {gathered} {list} {awaited} (inl nothing) (refused before new failure run is) = fails failure refl nothing (text-fails s gathered list awaited failure (refused before new failure run is))
 text-ends (inr both) (refused before new failure run is) = absurd (cc)
 
 -- ---- where the run is empty
@@ -122,15 +144,17 @@ none-held : (macros : Macros) (ts : List (Hidden Place)) (failure : Failure Plac
 none-held macros ts failure is (held u passes run) = let none = none-passed macros ts _ _ is passes in cc
 
 -- nothing was gathered, put out or refused
-pub text-empty : (s : State) (gathered : List (Hidden Place)) (list : List Token) (faults : List (Failure Place)) → s.run ≡ [] → HasText s gathered list faults → (gathered ≡ []) × (list ≡ s.output) × (faults ≡ [])
-text-empty s gathered list _ none (settling before new out left run settles all is) =
+pub text-empty : (s : State) (gathered : List (Hidden Place)) (list : List Token) (awaited : Awaited) (faults : List (Failure Place)) → s.run ≡ [] → HasText s gathered list awaited faults
+    → (gathered ≡ []) × (list ≡ s.output) × (faults ≡ []) × (awaited ≡ no_operator)
+text-empty s gathered list awaited _ none (settling before new out left run settles all is behind) =
     let both = empty-both before new (sym none ∙ run) in
     let nothing = none-settles s.macros (hidden before) out left (ap hidden both.0) settles in (
       all ∙ (ap (λ hs. hs ++ hidden new) nothing.1 ∙ ap hidden both.1),
-      is ∙ (ap (λ ts. s.output ++ map token_of ts) nothing.0 ∙ append-nil s.output),
+      is ∙ (ap (λ ts. s.output ++ outside no_operator (map token_of ts)) nothing.0 ∙ append-nil s.output),
       refl,
+      behind ∙ ap (λ ts. awaits no_operator (map token_of ts)) nothing.0,
     )
-text-empty s gathered list _ none (refused before new failure run is) =
+text-empty s gathered list awaited _ none (refused before new failure run is) =
     absurd (none-held s.macros (hidden before) failure (ap hidden (empty-both before new (sym none ∙ run)).0) is)
 
 -- ---- settled once more

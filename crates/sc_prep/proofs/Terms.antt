@@ -7,6 +7,7 @@ pub use Rattle.std.specs.declared.rc.Rc.{Rc}
 pub use Rattle.c11_directives.specs.Behind.{Says, as_it_stands, begins_with_header, behind_name, expanded, greatest_line, is_line_number, is_numbering}
 pub use Rattle.c11_directives.specs.Footprints.{DirectiveHas, Has, HasFootprints, MomentsHave, NameHas, Origin, PartHas, SourceFootprint, Spot, TextHas, Used, before_token, definitions_of, footprint_at, looked_up_in, of_directive, of_last_run, of_run, source, token_itself, tokens_used, waiting}
 pub use Rattle.c11_directives.specs.Lines.{AreBranches, Branches, Group, IsGroup, IsTree, Line, Opens, Tree, alternative, branch_lines, closing, conditional_in, conditional_of, directive_of, directives_of, empty, group_lines, hash_of, line_of, lines_of, onto_first, otherwise, plain, section, test_in, test_of}
+pub use Rattle.c11_directives.specs.Pragmas.{CarriesOutPragmas, RunBecomes}
 pub use Rattle.c11_directives.specs.Pre.{Carries, Changes, Closes, Context, Decides, Defines, Enters, File, Includes, Pre, RefusedAt, State, Steps, Walks, WalksBranches, again, back, badly_nested, carried_out, changed, closed, context_of, deeper, defines, defines_nothing, done, entered, error, file_lines, file_with, found_or, fresh, head_stops, if_defined, if_undefined, ignored, included, initial_state, inside, is_barrier, is_once, is_once_file, is_said, last_taken, later_passed, later_stops, later_taken, left_out, line, line_stops, missing, names_once, no_header, no_name, none_taken, not_changed, not_expanded, not_numbered, null, numbered, operand_of, passed, passed_stops, place_in, put_out, redefined, refused, search, state_behind, stopped, stopped_inside, taken, taken_stops, text, too_deep, too_large, undefined, undefines, unended, unknown, walked, with_file_of, with_macro, with_text, without_macro}
 pub use Rattle.c11_directives.specs.Reaches.{BranchesReach, FileReaches, GroupReaches, LineReaches, Moment, at_end, at_head}
 pub use Rattle.c11_directives.specs.declared.directive.Conditional.{Conditional}
@@ -80,6 +81,7 @@ pub use Rattle.sc_prep.specs.Machine.{Answers, Carried, CarriesOut, Decided, Mac
 pub use Rattle.sc_prep.specs.Naming.{AddsHeader, AreHeaders, ArePlainNames, NamesAll, NamesAt, OwnsHeaders, fails, headers_in, idle, is_unnamed, named_in, names, unnamed_in, with_named}
 pub use Rattle.sc_prep.specs.Once.{AreOnceHeld, MarksFile, OwnsOnce, is_marked, once_at}
 pub use Rattle.sc_prep.specs.Passes.{EndsAt, PassesOver, StandFor, nothing, plain_line, whole_group, whole_section}
+pub use Rattle.sc_prep.specs.Pragmas.{Awaited, AwaitsAt, HasNoPragma, OwnsPragmas, awaits, no_operator, outside, tokens_within, fault_awaiting}
 pub use Rattle.sc_prep.specs.Preprocesses.{IsOrdinary, IsRefused, OwnsList, ReadsNothing, Stops, is_accepted}
 pub use Rattle.sc_prep.specs.Printable.{AllPass, AreHeld, ArePlaced, ArePlainPaths, CanBeShown, HoldsRuns, IsHeldWalk, IsPlaced, IsPlainOrNewline, IsPlainState, IsPlainToken, StaysHeld, any_token, is_plain}
 pub use Rattle.sc_prep.specs.Read.{EndsRead, TakesOut, last_run, run_at, tokens_read}

@@ -8,8 +8,10 @@ use Rattle.sc_expand.specs.Seen.{seen_failure}
 use Rattle.sc_model.specs.Token.{Place}
 use Rattle.sc_prep.proofs.Contents.{IsPlaced-later, place-later, tokens-later}
 use Rattle.sc_prep.proofs.Facts.{All-cons, All-head, All-nil, All-push, All-tail, Extends-within, faults_at-Keeps, faults_at-append, items_at-Keeps, items_at-append, items_at-under, map-append, under}
+use Rattle.sc_prep.proofs.PragmaMoves.{awaits-kept, awaits-none, owns-pragmas}
 use Rattle.sc_prep.proofs.SettledText.{text-as, text-begins, text-empty, text-more}
-use Rattle.sc_prep.proofs.Terms.{ArePlaced, Cond, Extends, Hidden, HoldsRuns, IsCond, IsConfig, IsHeldHidden, IsPlaced, Keeps, Line, Macros, Name, OpenRuns, OwnsRuns, RunAt, Sets, State, Token, faults_at, held_at, hidden_at, items_at, last_run, option_to_list, run_at, seen, seen_hidden, seen_place, set_at, tokens_read, unhidden, with_text}
+use Rattle.sc_prep.proofs.Terms.{ArePlaced, Cond, Extends, Hidden, HoldsRuns, IsCond, IsConfig, IsHeldHidden, IsPlaced, Keeps, Line, Macros, Name, OpenRuns, OwnsRuns, RunAt, Sets, State, Token, faults_at, held_at, hidden_at, items_at, last_run, option_to_list, run_at, seen, seen_fault, seen_hidden, seen_place, set_at, tokens_read, unhidden, with_text}
+use Rattle.sc_prep.specs.Pragmas.{AwaitsAt, HasNoPragma, no_operator}
 use Rattle.sc_subst.proofs.Later.{IsHeldHidden-Extends, hidden_later}
 use Rattle.sc_subst.specs.declared.hidden.Hide.{Hide}
 use Rattle.sc_subst.specs.declared.hidden.Hidden as base_hidden
@@ -95,12 +97,14 @@ items_seen-append s names files xs ys c = ap (map (seen names files)) (items_at-
 -- ---- the stores grow
 
 pub owns-runs : {old new : Sets} {runs : OpenRuns} → Keeps old new → OwnsRuns old runs → OwnsRuns new runs
-owns-runs keeps o = record { gathered = λ k d h. keeps.own _ (o.gathered k d h); held = λ k d h. keeps.own _ (o.held k d h); read = λ k d h. keeps.own _ (o.read k d h) }
+owns-runs keeps o = record { gathered = λ k d h. keeps.own _ (o.gathered k d h); held = λ k d h. keeps.own _ (o.held k d h); pragmas = owns-pragmas keeps o.pragmas; read = λ k d h. keeps.own _ (o.read k d h) }
 
 pub run-kept : {old new : Sets} {names files : List (List ℕ)} {runs : OpenRuns} {list : List (Cond × Token)} {c : List ℕ} {state : State} → Keeps old new → OwnsRuns old runs → All (λ (item : Cond × Token). IsCond old item.0.0) list
     → IsConfig old.arities c → RunAt old names files runs list c state → RunAt new names files runs list c state
 run-kept {names = names} {files} {runs} {list} {c} keeps owns own listed at = record {
   run = ap (λ xs. map (seen names files) (last_run [] xs)) (items_at-Keeps runs.read c keeps owns.read listed) ∙ at.run;
+  awaited = at.awaited;
+  awaits = awaits-kept keeps owns.pragmas listed at.awaits;
   text = text-as (ap (λ hs. map (moved (seen_place files)) (map (seen_hidden names runs.sets) hs)) (items_at-Keeps runs.gathered c keeps owns.gathered listed)) (ap (map (seen names files)) (items_at-Keeps list c keeps own listed))
       (ap (λ fs. map (moved_failure (seen_place files)) (map seen_failure fs)) (faults_at-Keeps runs.held.items c keeps owns.held listed)) at.text;
 }
@@ -109,7 +113,7 @@ module _ {names more files more_files : List (List ℕ)} (grows : Extends names 
   abbrev IsKnown : base_hidden.Hidden → Type 0
   IsKnown h = IsHeldHidden names runs.sets h × (h.token.place.file.0 < length files)
 
-  hidden-grown : (hs : List base_hidden.Hidden) → All IsKnown hs → map (moved (seen_place more_files)) (map (seen_hidden more hides) hs) ≡ map (moved (seen_place files)) (map (seen_hidden names runs.sets) hs)
+  pub hidden-grown : (hs : List base_hidden.Hidden) → All IsKnown hs → map (moved (seen_place more_files)) (map (seen_hidden more hides) hs) ≡ map (moved (seen_place files)) (map (seen_hidden names runs.sets) hs)
   hidden-grown [] all = refl
   hidden-grown (h ∷ hs) all =
       let known = All-head IsKnown h hs all in
@@ -128,10 +132,23 @@ module _ {names more files more_files : List (List ℕ)} (grows : Extends names 
       ap (λ p. record was { place = p } ∷ map (moved_failure (seen_place more_files)) (map seen_failure fs)) (place-later grows files_grow f.place (All-head IsThere f fs all))
       ∙ ap (λ xs. was ∷ xs) (failures-grown fs (All-tail IsThere f fs all))
 
+  seen-grown : (fs : List base.Fault) → All IsThere fs → map (seen_fault more_files) fs ≡ map (seen_fault files) fs
+  seen-grown [] all = refl
+  seen-grown (f ∷ fs) all =
+      ap (λ (p : Place). record { cause = f.cause; place = p } ∷ map (seen_fault more_files) fs) (place-later grows files_grow f.place (All-head IsThere f fs all)) ∙ ap (λ xs. seen_fault files f ∷ xs) (seen-grown fs (All-tail IsThere f fs all))
+
   pub run-later : {s : Sets} {list : List (Cond × Token)} {c : List ℕ} {state : State} → HoldsRuns names (length files) runs → ArePlaced names (length files) list
       → RunAt s names files runs list c state → RunAt s more more_files (record runs { sets = hides }) list c state
   run-later {s} {list} {c} holds placed at = record {
     run = tokens-later grows files_grow (run_at s runs.read c) (run_at-All (IsPlaced names (length files)) s runs.read c holds.read) ∙ at.run;
+    awaited = at.awaited;
+    awaits = record {
+      inside = at.awaits.inside;
+      opening = at.awaits.opening;
+      text = at.awaits.text;
+      closing = at.awaits.closing;
+      faults = seen-grown (faults_at s runs.pragmas.faults.items c) (faults_at-All IsThere s runs.pragmas.faults.items c holds.pragmas) ∙ at.awaits.faults;
+    };
     text = text-as (hidden-grown (items_at s runs.gathered c) (items_at-All IsKnown s runs.gathered c holds.gathered))
         (tokens-later grows files_grow (items_at s list c) (items_at-All (IsPlaced names (length files)) s list c placed))
         (failures-grown (faults_at s runs.held.items c) (faults_at-All IsThere s runs.held.items c holds.held)) at.text;
@@ -141,25 +158,28 @@ module _ {names more files more_files : List (List ℕ)} (grows : Extends names 
   holds-later holds = record {
     gathered = λ k d h. let known = holds.gathered k d h in (IsHeldHidden-Extends _ known.0 grows hides_grow, Extends-within _ known.1 files_grow);
     held = λ k d h. Extends-within _ (holds.held k d h) files_grow;
+    pragmas = λ k d h. Extends-within _ (holds.pragmas k d h) files_grow;
     read = λ k d h. IsPlaced-later grows files_grow _ (holds.read k d h);
   }
 
 -- ---- nothing was read
 
 module _ {runs : OpenRuns} (gathered : runs.gathered ≡ []) (held : runs.held.items ≡ []) (read : runs.read ≡ []) where
-  pub owns-none : (s : Sets) → OwnsRuns s runs
-  owns-none s = record {
+  pub owns-none : (s : Sets) → HasNoPragma s runs.pragmas → OwnsRuns s runs
+  owns-none s none = record {
     gathered = subst (All (λ (item : Cond × base_hidden.Hidden). IsCond s item.0.0)) (sym gathered) (All-nil (λ (item : Cond × base_hidden.Hidden). IsCond s item.0.0));
     held = subst (All (λ (f : base.Fault). IsCond s f.cond.0)) (sym held) (All-nil (λ (f : base.Fault). IsCond s f.cond.0));
+    pragmas = none.owns;
     read = subst (All (λ (item : Cond × Option Token). IsCond s item.0.0)) (sym read) (All-nil (λ (item : Cond × Option Token). IsCond s item.0.0));
   }
 
-  pub holds-none : (names : List (List ℕ)) (files : ℕ) → HoldsRuns names files runs
-  holds-none names files =
+  pub holds-none : {s : Sets} (names : List (List ℕ)) (files : ℕ) → HasNoPragma s runs.pragmas → HoldsRuns names files runs
+  holds-none names files none =
       let H : Cond × base_hidden.Hidden → Type 0 = λ item. IsHeldHidden names runs.sets item.1 × (item.1.token.place.file.0 < files) in
       record {
         gathered = subst (All H) (sym gathered) (All-nil H);
         held = subst (All (λ (f : base.Fault). f.place.file.0 < files)) (sym held) (All-nil (λ (f : base.Fault). f.place.file.0 < files));
+        pragmas = subst (All (λ (f : base.Fault). f.place.file.0 < files)) (sym none.faults) (All-nil (λ (f : base.Fault). f.place.file.0 < files));
         read = subst (λ (r : List (Cond × Option Token)). All (IsPlaced names files) (tokens_read r)) (sym read) (All-nil (IsPlaced names files));
       }
 
@@ -204,10 +224,14 @@ module _ (s : Sets) (names files : List (List ℕ)) (runs : OpenRuns) (hide : Hi
   pub run-more : (b : Bool) → s.has cond.0 c ≡ b → RunAt s names files runs list c state → RunAt s names files more list c (if b then with_text state line else state)
   run-more true here at = record {
     run = shown true here ∙ (ap (λ run. run ++ map (seen names files) ts) at.run ∙ ap (λ run. state.run ++ run) (sym is));
-    text = text-as (hidden-more runs.sets hide none s names files runs.gathered cond ts c true here ∙ ap (λ run. gathered ++ map unhidden run) (sym is)) refl refl (text-more state line gathered _ _ at.text);
+    awaited = at.awaited;
+    awaits = at.awaits;
+    text = text-as (hidden-more runs.sets hide none s names files runs.gathered cond ts c true here ∙ ap (λ run. gathered ++ map unhidden run) (sym is)) refl refl (text-more state line gathered _ _ _ at.text);
   }
   run-more false here at = record {
     run = shown false here ∙ (append-nil (map (seen names files) (run_at s runs.read c)) ∙ at.run);
+    awaited = at.awaited;
+    awaits = at.awaits;
     text = text-as (hidden-more runs.sets hide none s names files runs.gathered cond ts c false here ∙ append-nil gathered) refl refl at.text;
   }
 
@@ -215,9 +239,11 @@ module _ (s : Sets) (names files : List (List ℕ)) (runs : OpenRuns) (hide : Hi
 
 module _ {s : Sets} {names files : List (List ℕ)} {runs : OpenRuns} {list : List (Cond × Token)} {c : List ℕ} where
   -- nothing was read
-  pub run-empty : (state : State) → runs.gathered ≡ [] → runs.held.items ≡ [] → runs.read ≡ [] → state.run ≡ [] → map (seen names files) (items_at s list c) ≡ state.output → RunAt s names files runs list c state
-  run-empty state gathered held read empty same = record {
+  pub run-empty : IsConfig s.arities c → (state : State) → HasNoPragma s runs.pragmas → runs.gathered ≡ [] → runs.held.items ≡ [] → runs.read ≡ [] → state.run ≡ [] → map (seen names files) (items_at s list c) ≡ state.output → RunAt s names files runs list c state
+  run-empty listed state none gathered held read empty same = record {
     run = ap (λ r. map (seen names files) (run_at s r c)) read ∙ sym empty;
+    awaited = no_operator;
+    awaits = awaits-none files listed none;
     text = text-as (ap (λ g. hidden_at s names files runs.sets g c) gathered) refl (ap (λ fs. map (moved_failure (seen_place files)) (map seen_failure (faults_at s fs c))) held)
         (text-begins state [] (map (seen names files) (items_at s list c)) (ap (map unhidden) (sym empty)) same);
   }
@@ -225,17 +251,19 @@ module _ {s : Sets} {names files : List (List ℕ)} {runs : OpenRuns} {list : Li
   -- another state goes on there, with another list
   pub run-anew : {other : List (Cond × Token)} (state next : State) → state.run ≡ [] → next.run ≡ [] → map (seen names files) (items_at s other c) ≡ next.output → RunAt s names files runs list c state → RunAt s names files runs other c next
   run-anew {other} state next none empty same at =
-      let nothing = text-empty state _ _ _ none at.text in
+      let nothing = text-empty state _ _ _ _ none at.text in
       record {
         run = at.run ∙ (none ∙ sym empty);
+        awaited = no_operator;
+        awaits = subst (AwaitsAt s files runs.pragmas c) nothing.3 at.awaits;
         text = text-as refl refl nothing.2 (text-begins next _ (map (seen names files) (items_at s other c)) (nothing.0 ∙ ap (map unhidden) (sym empty)) same);
       }
 
   -- the same items were put out
   pub run-listed : {other : List (Cond × Token)} {state : State} → map (seen names files) (items_at s other c) ≡ map (seen names files) (items_at s list c) → RunAt s names files runs list c state → RunAt s names files runs other c state
-  run-listed same at = record { run = at.run; text = text-as refl same refl at.text }
+  run-listed same at = record { run = at.run; awaited = at.awaited; awaits = at.awaits; text = text-as refl same refl at.text }
 
   -- the macros may change then
   pub run-changed : (b : Bool) (state : State) (macros : Macros) → (b ≡ true → state.run ≡ []) → RunAt s names files runs list c state → RunAt s names files runs list c (if b then record state { macros = macros } else state)
-  run-changed true state macros none at = run-anew state (record state { macros = macros }) (none refl) (none refl) (text-empty state _ _ _ (none refl) at.text).1 at
+  run-changed true state macros none at = run-anew state (record state { macros = macros }) (none refl) (none refl) (text-empty state _ _ _ _ (none refl) at.text).1 at
   run-changed false state macros none at = at

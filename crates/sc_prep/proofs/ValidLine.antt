@@ -15,7 +15,7 @@ use Rattle.sc_prep.proofs.ApartLemmas.{apart-left, pairs-map, pairs-unmap}
 use Rattle.sc_prep.proofs.Contents.{IsPlaced-later, tokens-later}
 use Rattle.sc_prep.proofs.Facts.{All-weaker, Extends-refl, get_or_append_left, length-append, length-map, take_all}
 use Rattle.sc_prep.proofs.FileTokens.{file-placed}
-use Rattle.sc_prep.proofs.MainFile.{IsNew}
+use Rattle.sc_prep.specs.New.{IsNew}
 use Rattle.sc_prep.proofs.Positions.{lexed-apart}
 use Rattle.sc_prep.proofs.Stopping.{here_at, stops-as}
 use Rattle.sc_prep.proofs.Terms.{AreTokensOf, AskedHas, Expression, Extends, FileId, IsConfig, IsHeld, IsPlaced, Line, OutOfMemory, Sets, Space, StandApart, Stop, StopsAtPlace, StopsBy, StopsStage, Token, UnterminatedComment, Walk, arities_of, in_file, initial_state, is_newline, line_of, position, seen, seen_line, start, test_of}

@@ -5,7 +5,7 @@ use Rattle.c11_directives.proofs.ListedLaws.{says-unique}
 use Rattle.c11_directives.specs.Listed.{IsRefusedBy, IsValidLine, SaysValid, decided}
 use Rattle.sc_base.specs.declared.fault.Fault as base
 use Rattle.sc_prep.proofs.Facts.{All-head, All-tail, IsConfig-Keeps, IsConfig-kept, true≢false}
-use Rattle.sc_prep.proofs.MainFile.{IsNew}
+use Rattle.sc_prep.specs.New.{IsNew}
 use Rattle.sc_prep.proofs.Terms.{Cause, Context, Decides, DecidesAt, Fault, IsConfig, IsNever, IsOutcomeOf, Keeps, Line, Machine, Sets, Space, State, Walk, arities_of, context_of, deciding_done, deciding_fails, deciding_idle, faults_at, initial_state, seen_fault, start}
 use Rattle.sc_prep.specs.Stages.{DecidesTest}
 use Rattle.sc_prep.specs.Valid.{FindsLeast, IsCauseAt, IsLeast, IsValidSet}

@@ -319,6 +319,7 @@ puts standard names s w owns hide unhidden tokens =
         runs = record {
           gathered = All-append H w.runs.gathered (under w.acting (map (bare hide) tokens)) owns.runs.gathered (All-map H (λ t. (w.acting, t)) (map (bare hide) tokens) (λ k d h. owns.acting));
           held = owns.runs.held;
+          pragmas = owns.runs.pragmas;
           read = All-append R w.runs.read (under w.acting (map Some tokens)) owns.runs.read (All-map R (λ t. (w.acting, t)) (map Some tokens) (λ k d h. owns.acting));
         };
         once = owns.once;

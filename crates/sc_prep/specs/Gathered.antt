@@ -13,16 +13,18 @@ use Rattle.sc_expand.specs.Moved.{moved, moved_failure}
 use Rattle.sc_expand.specs.Seen.{failures_at, seen_at, stores}
 use Rattle.sc_model.specs.Sets.{Sets}
 use Rattle.sc_model.specs.Token.{Place, Token}
+use Rattle.sc_prep.specs.Pragmas.{Awaited, awaits, no_operator, outside}
 use Rattle.sc_subst.specs.declared.hidden.Hidden as base_hidden
 
--- What a first part of the run became stands behind the output, and what is left of that is
--- gathered before the rest of the run. What one has gathered that is refused, whatever follows,
--- doesn't count.
-pub data HasText (s : State) (gathered : List (Hidden Place)) (list : List Token) : List (Failure Place) → Type 0 where
+-- What a first part of the run became stands behind the output, without operators and as far as one
+-- awaits this, and what is left of that part is gathered before the rest of the run. What one has
+-- gathered that is refused, whatever follows, doesn't count.
+pub data HasText (s : State) (gathered : List (Hidden Place)) (list : List Token) (awaited : Awaited) : List (Failure Place) → Type 0 where
   settling : (before new : List Token) (out left : List (Hidden Place)) → s.run ≡ before ++ new → Settles place_alone s.macros (map unhidden before) out left
-      → gathered ≡ left ++ map unhidden new → list ≡ s.output ++ map token_of out → HasText s gathered list []
+      → gathered ≡ left ++ map unhidden new → list ≡ s.output ++ outside no_operator (map token_of out) → awaited ≡ awaits no_operator (map token_of out)
+      → HasText s gathered list awaited []
   refused : (before new : List Token) (failure : Failure Place) → s.run ≡ before ++ new → IsHeld place_alone s.macros (map unhidden before) failure
-      → HasText s gathered list (failure ∷ [])
+      → HasText s gathered list awaited (failure ∷ [])
 
 -- what a configuration has of a list of tokens that hide names, and of faults
 abbrev pub hidden_at : Sets → (names files : List (List ℕ)) → List (List Name) → List (Cond × base_hidden.Hidden) → List ℕ → List (Hidden Place)

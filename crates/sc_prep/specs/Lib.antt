@@ -10,8 +10,10 @@ pub mod Gathered
 pub mod Includes
 pub mod Machine
 pub mod Naming
+pub mod New
 pub mod Once
 pub mod Passes
+pub mod Pragmas
 pub mod Preprocesses
 pub mod Printable
 pub mod Read

@@ -12,11 +12,11 @@ use Rattle.c11_directives.specs.declared.directive.Directive.TheVariants as dire
 use Rattle.c11_directives.specs.Lines.{Line, conditional_of, hash_of}
 use Rattle.sc_model.specs.Fault.{Fault, fault_at, first_place}
 use Rattle.c11_directives.specs.Behind.{behind_name, Says}
+use Rattle.c11_directives.specs.Pragmas.{RunBecomes}
 use Rattle.c11_directives.specs.Pre.{Context, State, Carries, Decides, place_in, with_text, put_out, operand_of, with_macro, undefined, is_barrier, is_said, state_behind}
 use Rattle.c11_macros.specs.Defines.{Defined, reads}
 use Rattle.c11_macros.specs.Macros.{Definition, Macros}
 use Rattle.c11_macros.specs.Same.{same_definition}
-use Rattle.c11_macros.specs.Text.{TextExpands}
 use Rattle.sc_model.specs.Token.{Place, Token}
 
 -- Whether the lines are taken, for each open section whether it stands in lines that are taken and
@@ -82,7 +82,7 @@ abbrev pub ended : Machine → List (Bool × Bool) → Machine
 ended m [] = m
 ended m (s ∷ ss) = turned m s.0 ss
 
--- a barrier closes the run, which is put out as what it expands to, or its fault is the machine's
+-- a barrier closes the run, which is put out as what it becomes, or its fault is the machine's
 abbrev pub closing_run : Machine → Result (List Token) Fault → Machine
 closing_run m (Ok output) = acting m (λ s. put_out s output)
 closing_run m (Err fault) = record m { fault = if acts m then Some fault else m.fault }
@@ -162,9 +162,9 @@ abbrev pub ends_run : Option Directive → Bool
 ends_run None = false
 ends_run (Some d) = is_barrier d
 
--- a run of the machine expands to this, where it has one to be closed
+-- a run of the machine becomes this, where it has one to be closed
 abbrev pub RunExpands : Machine → Result (List Token) Fault → Type 0
-RunExpands m r = acts m ≡ true → TextExpands m.state.macros m.state.run r
+RunExpands m r = acts m ≡ true → RunBecomes m.state.macros m.state.run r
 
 -- what a directive comes to, where the machine does something
 abbrev pub arriving : Machine → Result State Fault → Machine

@@ -16,6 +16,7 @@ use Rattle.sc_prep.specs.declared.once.OnceFile.{OnceFile}
 use Rattle.sc_prep.specs.declared.open_runs.OpenRuns.{OpenRuns}
 use Rattle.sc_prep.specs.declared.prepared.Prepared.{Prepared}
 use Rattle.sc_prep.specs.Once.{AreOnceHeld}
+use Rattle.sc_prep.specs.Pragmas.{ArePragmasPlaced}
 use Rattle.sc_prep.specs.Read.{tokens_read}
 use Rattle.sc_prep.specs.declared.walk.Walk.{Walk}
 use Rattle.sc_subst.specs.declared.hidden.Hidden.{Hidden}
@@ -45,6 +46,7 @@ ArePlaced names files list = All (λ item. IsPlaced names files item.1) list
 pub record HoldsRuns (names : List (List ℕ)) (files : ℕ) (runs : OpenRuns) : Type 0 where
   pub gathered : All (λ (item : Cond × Hidden). IsHeldHidden names runs.sets item.1 × (item.1.token.place.file.0 < files)) runs.gathered
   pub held : All (λ (f : base.Fault). f.place.file.0 < files) runs.held.items
+  pub pragmas : ArePragmasPlaced files runs.pragmas
   pub read : All (IsPlaced names files) (tokens_read runs.read)
 
 -- the tables hold what is open and prepared and the files that are entered no more, and the tokens

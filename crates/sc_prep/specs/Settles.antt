@@ -15,6 +15,7 @@ use Rattle.sc_guarded.specs.declared.expanded.Expanded.{Expanded}
 use Rattle.sc_model.specs.Sets.{Sets, Denotes, IsCond, IsConfig, Keeps}
 use Rattle.sc_prep.specs.Closes.{IsWithin, has_none}
 use Rattle.sc_prep.specs.Gathered.{held_at, hidden_at}
+use Rattle.sc_prep.specs.Pragmas.{EndsPragmas, PutsOutside}
 use Rattle.sc_prep.specs.Read.{EndsRead}
 use Rattle.sc_prep.specs.declared.walk.Walk.{Walk}
 use Rattle.sc_subst.specs.declared.hidden.Hidden.{Hidden}
@@ -29,14 +30,17 @@ pub record IsAsked (s : Sets) (walk : Walk) (free asked : ℕ) : Type 0 where
 
 -- What a list of the configurations that are asked for settled to is put out, waits and holds them.
 -- The others without a fault keep what they have gathered.
-pub record KeepsSettled (old : Sets) (walk : Walk) (live asked : ℕ) (settled : Settled) (new : Sets) (next : Walk) : Type 0 where
-  pub same : next ≡ record walk { runs = record walk.runs { gathered = next.runs.gathered; held = next.runs.held }; prepared = record walk.prepared { list = next.prepared.list } }
-  pub done : List (Cond × Token)
+pub record KeepsSettled (names : List (List ℕ)) (old : Sets) (walk : Walk) (live asked : ℕ) (settled : Settled) (new : Sets) (next : Walk) : Type 0 where
+  pub same : next ≡ record walk { runs = record walk.runs { gathered = next.runs.gathered; held = next.runs.held; pragmas = next.runs.pragmas }; prepared = record walk.prepared { list = next.prepared.list } }
+  pub middle : Sets
+  pub until : Keeps old middle
+  pub later : Keeps middle new
+  pub free : ℕ
   pub left : List (Cond × Hidden)
-  pub list : next.prepared.list ≡ walk.prepared.list ++ done
   pub gathered : next.runs.gathered ≡ settled.rest ++ left
   pub held : next.runs.held.items ≡ walk.runs.held.items ++ settled.held.items
-  pub puts : IsWithin old settled.done (λ c. old.has asked c && has_none old settled.held.items c) new done
+  pub is_free : Denotes middle free (λ c. old.has asked c && has_none old settled.held.items c)
+  pub puts : PutsOutside names middle walk.runs.pragmas settled.done free walk.prepared.list new next.runs.pragmas next.prepared.list
   pub stays : IsWithin old walk.runs.gathered (λ c. old.has live c && not (old.has asked c)) new left
 
 -- faults as items of a list
@@ -45,25 +49,29 @@ fault_items faults = map (λ fault. (fault.cond, seen_failure fault)) faults
 
 -- The runs of the configurations that act end: what waits there is closed, and what holds them is
 -- their fault. What is gathered, and held, stays for the others.
-pub record EndsRuns (old : Sets) (walk : Walk) (new : Sets) (next : Walk) : Type 0 where
+pub record EndsRuns (names : List (List ℕ)) (old : Sets) (walk : Walk) (new : Sets) (next : Walk) : Type 0 where
   pub middle : Sets
   pub until : Keeps old middle
-  pub later : Keeps middle new
   pub e : Expanded
   pub closed : IsClosed old middle walk.runs.gathered walk.acting.0 e
   pub ended : List Fault
   pub ends : IsWithin old (fault_items walk.runs.held.items) (old.has walk.acting.0) middle (fault_items ended)
+  pub last : Sets
+  pub faults : List Fault
+  pub pragmas : EndsPragmas names middle walk.runs.pragmas e.list walk.acting.0 walk.prepared.list (e.faults.items ++ ended) last next.runs.pragmas next.prepared.list faults
+  pub until_last : Keeps middle last
+  pub later : Keeps last new
   pub same : next ≡ record walk {
     acting = next.acting;
-    runs = record walk.runs { gathered = next.runs.gathered; held = next.runs.held; read = next.runs.read };
-    prepared = record walk.prepared { list = walk.prepared.list ++ e.list; faults = next.prepared.faults; live = next.prepared.live };
+    runs = record walk.runs { gathered = next.runs.gathered; held = next.runs.held; pragmas = next.runs.pragmas; read = next.runs.read };
+    prepared = record walk.prepared { list = next.prepared.list; faults = next.prepared.faults; live = next.prepared.live };
   }
   pub gathered : IsWithin old walk.runs.gathered (λ c. not (old.has walk.acting.0 c)) new next.runs.gathered
   pub held : IsWithin old (fault_items walk.runs.held.items) (λ c. not (old.has walk.acting.0 c)) new (fault_items next.runs.held.items)
   pub read : EndsRead old walk.runs.read walk.acting.0 walk.prepared.live.0 new next.runs.read
-  pub faults : next.prepared.faults.items ≡ walk.prepared.faults.items ++ (e.faults.items ++ ended)
-  pub live : Denotes new next.prepared.live.0 (λ c. old.has walk.prepared.live.0 c && has_none middle (e.faults.items ++ ended) c)
-  pub acting : Denotes new next.acting.0 (λ c. old.has walk.acting.0 c && has_none middle (e.faults.items ++ ended) c)
+  pub told : next.prepared.faults.items ≡ walk.prepared.faults.items ++ faults
+  pub live : Denotes new next.prepared.live.0 (λ c. old.has walk.prepared.live.0 c && has_none last faults c)
+  pub acting : Denotes new next.acting.0 (λ c. old.has walk.acting.0 c && has_none last faults c)
 
 -- Of what the configurations have gathered that act nothing is left, or it has settled and nothing
 -- holds it: where nothing follows it becomes this.

@@ -24,6 +24,7 @@ use Rattle.sc_model.specs.Space.{Space}
 use Rattle.sc_prep.specs.Contents.{AreContents}
 use Rattle.sc_prep.specs.Gathered.{HasText, held_at, hidden_at}
 use Rattle.sc_prep.specs.declared.content.Contents.{Contents}
+use Rattle.sc_prep.specs.Pragmas.{Awaited, AwaitsAt, OwnsPragmas}
 use Rattle.sc_prep.specs.Printable.{IsHeldWalk, IsPlainState, any_token}
 use Rattle.sc_prep.specs.declared.entry.Entry.{Entry}
 use Rattle.sc_table.specs.Table.{IsTable, macros_at}
@@ -49,7 +50,9 @@ pub record IsBegun (s : Sets) (names : List (List ℕ)) (table : MacroTable) (co
 -- What this configuration has of a run: it was read, and what has become of it.
 pub record RunAt (s : Sets) (names files : List (List ℕ)) (runs : OpenRuns) (list : List (Cond × base_token.Token)) (config : List ℕ) (state : State) : Type 0 where
   pub run : map (seen names files) (run_at s runs.read config) ≡ state.run
-  pub text : HasText state (hidden_at s names files runs.sets runs.gathered config) (map (seen names files) (items_at s list config)) (held_at s files runs.held.items config)
+  pub awaited : Awaited
+  pub awaits : AwaitsAt s files runs.pragmas config awaited
+  pub text : HasText state (hidden_at s names files runs.sets runs.gathered config) (map (seen names files) (items_at s list config)) awaited (held_at s files runs.held.items config)
 
 -- At this configuration the walk is where the machine is. The tokens of a configuration with a
 -- fault don't count.
@@ -69,6 +72,7 @@ pub record OwnsSection (s : Sets) (section : Section) : Type 0 where
 pub record OwnsRuns (s : Sets) (runs : OpenRuns) : Type 0 where
   pub gathered : All (λ (item : Cond × base_hidden.Hidden). IsCond s item.0.0) runs.gathered
   pub held : All (λ (f : base_fault.Fault). IsCond s f.cond.0) runs.held.items
+  pub pragmas : OwnsPragmas s runs.pragmas
   pub read : All (λ (item : Cond × Option base_token.Token). IsCond s item.0.0) runs.read
 
 -- the store made all conditions of the walk but for those of its table

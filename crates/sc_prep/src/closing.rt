@@ -8,8 +8,10 @@ ghost use Rattle.sc_prep.specs.Machine.{acts};
 ghost use Rattle.sc_prep.specs.Read.{tokens_read};
 ghost use Rattle.sc_prep.specs.Simulates.{Closed, Owns};
 ghost use Rattle.sc_prep.specs.Settles.{EndsRuns, fault_items};
+ghost use Rattle.sc_subst.specs.Seen.{IsHeldHidden};
 ghost use Rattle.sc_prep.specs.Stages.{IsStored, LineStage, StopsStage};
 
+use crate::settling::hold;
 use crate::walk::Walk;
 use sc_base::{Cond, Fault, Files, Names, OutOfMemory, Stop};
 use sc_expand::close;
@@ -43,16 +45,22 @@ impl Walk {
             return Ok(());
         }
         self.settle_runs(alloc, conds, names, files, limit)?;
-        self.end_runs(alloc, conds)?;
+        self.end_runs(alloc, conds, names)?;
         Ok(())
     }
 
     /// The runs of the configurations that act end where their text has settled: nothing follows
     /// what waits of it, and what holds them becomes their fault.
     #[tactic(auto, using(sc_model::proofs::SetLemmas::conditions))]
-    fn end_runs<C: Conditions>(&mut self, alloc: Global, conds: &mut C) -> Result<(), OutOfMemory>
+    fn end_runs<C: Conditions>(
+        &mut self,
+        alloc: Global,
+        conds: &mut C,
+        names: &Names,
+    ) -> Result<(), OutOfMemory>
         requires owns { Owns (C.sets conds.old) self.old }
-        ensures ends { OnOk result (EndsRuns (C.sets conds.old) self.old (C.sets conds.new) self.new) }
+        requires held { All (λ item. IsHeldHidden names.now self.old.runs.sets item.1) self.old.runs.gathered }
+        ensures ends { OnOk result (EndsRuns names.now (C.sets conds.old) self.old (C.sets conds.new) self.new) }
 
         // at every outcome
         ensures keeps { Keeps (C.sets conds.old) (C.sets conds.new) }
@@ -63,12 +71,15 @@ impl Walk {
         let gathered = within(alloc, conds, &self.runs.gathered, others)?;
         let ended = faults_within(alloc, conds, &self.runs.held, acting)?;
         let held = faults_within(alloc, conds, &self.runs.held, others)?;
-        append(&mut self.prepared.list, &closed.list)?;
         self.runs.gathered = gathered;
         self.runs.held = held;
         self.runs.end(alloc, conds, acting, self.prepared.live)?;
-        self.refuse_each(conds, &closed.faults)?;
-        self.refuse_each(conds, &ended)?;
+        let mut faults = closed.faults;
+        hold(&mut faults, &ended)?;
+        let list = &mut self.prepared.list;
+        let pragmas = &mut self.runs.pragmas;
+        pragmas.finish(alloc, conds, names, &closed.list, acting, list, &mut faults)?;
+        self.refuse_each(conds, &faults)?;
         Ok(())
     }
 
@@ -171,7 +182,7 @@ pub fn within<C: Conditions, T: Copy + Drop>(
 
 /// The faults that a configuration of `by` has, each in those configurations.
 #[tactic(auto, using(sc_model::proofs::SetLemmas::conditions))]
-fn faults_within<C: Conditions>(
+pub fn faults_within<C: Conditions>(
     alloc: Global,
     conds: &mut C,
     faults: &[Fault],

@@ -21,10 +21,15 @@ pub struct Around {
 
 impl Walk {
     /// These configurations go on before the first line of a file.
-    pub fn begin_file(&mut self, alloc: Global, entering: Cond) -> Result<Around, OutOfMemory>
-        ensures { IfOk result (λ around. Begins self.old entering self.new around) }
+    pub fn begin_file<C: Conditions>(
+        &mut self,
+        alloc: Global,
+        conds: &C,
+        entering: Cond,
+    ) -> Result<Around, OutOfMemory>
+        ensures { IfOk result (λ around. Begins (C.sets conds.now) self.old entering self.new around) }
     {
-        let runs = mem::replace(&mut self.runs, OpenRuns::new(alloc)?);
+        let runs = mem::replace(&mut self.runs, OpenRuns::new(alloc, conds)?);
         let sections = mem::replace(&mut self.sections, Vec::new(alloc));
         let group = self.group;
         self.group = entering;

@@ -19,6 +19,7 @@ mod next_line;
 mod numbering;
 mod once;
 mod open_runs;
+mod pragmas;
 mod prepared;
 mod settling;
 mod valid;

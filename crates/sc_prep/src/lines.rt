@@ -276,7 +276,7 @@ impl Walk {
         }
         match content {
             Content::Lines(file) => {
-                let around = self.begin_file(alloc, inside)?;
+                let around = self.begin_file(alloc, conds, inside)?;
                 self.walk_lines(
                     alloc, space, src, conds, names, files, contents, entry, file,
                 )?;

@@ -3,10 +3,12 @@ ghost use Rattle.std.specs.Prelude.{◌≡◌, ℕ, ◌++◌, ◌∷◌, [], Lis
 ghost use Rattle.sc_guarded.specs.Items.{items_at};
 ghost use Rattle.sc_model.specs.Sets.{IsCond, IsConfig, Keeps, Sets};
 ghost use Rattle.sc_prep.specs.Apart.{tokens_in};
+ghost use Rattle.sc_prep.specs.Pragmas.{HasNoPragma};
 ghost use Rattle.sc_prep.specs.Read.{EndsRead, TakesOut, run_at, tokens_read};
 ghost use Rattle.sc_base.specs.declared.id.Cond.{Cond};
 ghost use Rattle.sc_base.specs.declared.token.Token as base;
 
+use crate::pragmas::Pragmas;
 use sc_base::{Cond, Fault, OutOfMemory, Token};
 use sc_guarded::Guarded;
 use sc_presence::Conditions;
@@ -23,6 +25,8 @@ pub struct OpenRuns {
     pub gathered: Guarded<Hidden>,
     /// The faults that they have whatever follows.
     pub held: Vec<Fault>,
+    /// The `_Pragma` operators in what was put out of them.
+    pub pragmas: Pragmas,
     /// All that was read since none was open: in order, each token with the configurations that
     /// have it, and where runs ended the configurations whose they were.
     pub read: Guarded<Option<Token>>,
@@ -30,15 +34,17 @@ pub struct OpenRuns {
 
 impl OpenRuns {
     /// No run is open.
-    pub fn new(alloc: Global) -> Result<OpenRuns, OutOfMemory>
+    pub fn new<C: Conditions>(alloc: Global, conds: &C) -> Result<OpenRuns, OutOfMemory>
         ensures gathered { IfOk result (λ runs. runs.gathered ≡ []) }
         ensures held { IfOk result (λ runs. runs.held.items ≡ []) }
+        ensures pragmas { IfOk result (λ runs. HasNoPragma (C.sets conds.now) runs.pragmas) }
         ensures read { IfOk result (λ runs. runs.read ≡ []) }
     {
         Ok(OpenRuns {
             sets: HideSets::new(alloc)?,
             gathered: Guarded::new(alloc)?,
             held: Vec::new(alloc),
+            pragmas: Pragmas::new(alloc, conds),
             read: Guarded::new(alloc)?,
         })
     }

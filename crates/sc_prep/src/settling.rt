@@ -3,7 +3,9 @@ ghost use Rattle.std.specs.Prelude.{◌≡◌, ℕ, ◌&&◌, ◌++◌, List, Al
 ghost use Rattle.c11_directives.specs.Footprints.{NameHas};
 ghost use Rattle.sc_model.specs.Growth.{Extends};
 ghost use Rattle.sc_model.specs.Sets.{IsCond, Denotes, Keeps};
+ghost use Rattle.sc_base.specs.Seen.{IsHeld};
 ghost use Rattle.sc_prep.specs.Closes.{has_none};
+ghost use Rattle.sc_prep.specs.Pragmas.{OwnsPragmas};
 ghost use Rattle.sc_prep.specs.Machine.{acts};
 ghost use Rattle.sc_prep.specs.Read.{tokens_read};
 ghost use Rattle.sc_prep.specs.Settles.{HasSettled, IsAsked, KeepsSettled};
@@ -149,7 +151,7 @@ impl Walk {
         let sets = &mut self.runs.sets;
         match settle(alloc, conds, table, sets, list, asked, limit, names, files) {
             Ok(settled) => {
-                self.keep_settled(alloc, conds, live, asked, settled)?;
+                self.keep_settled(alloc, conds, names, live, asked, settled)?;
                 Ok(true)
             }
             Err(Stop::BranchesFull { .. }) => Ok(false),
@@ -164,25 +166,29 @@ impl Walk {
         &mut self,
         alloc: Global,
         conds: &mut C,
+        names: &Names,
         live: Cond,
         asked: Cond,
         settled: Settled,
     ) -> Result<(), OutOfMemory>
         requires own { All (λ item. IsCond (C.sets conds.old) item.0.0) self.old.runs.gathered }
+        requires pragmas { OwnsPragmas (C.sets conds.old) self.old.runs.pragmas }
         requires done { All (λ item. IsCond (C.sets conds.old) item.0.0) settled.done }
+        requires held { All (λ item. IsHeld names.now item.1) settled.done }
         requires faults { All (λ fault. IsCond (C.sets conds.old) fault.cond.0) settled.held.items }
         requires live { IsCond (C.sets conds.old) live.0 }
         requires asked { IsCond (C.sets conds.old) asked.0 }
-        ensures puts { OnOk result (KeepsSettled (C.sets conds.old) self.old live.0 asked.0 settled (C.sets conds.new) self.new) }
+        ensures puts { OnOk result (KeepsSettled names.now (C.sets conds.old) self.old live.0 asked.0 settled (C.sets conds.new) self.new) }
 
         // at every outcome
         ensures keeps { Keeps (C.sets conds.old) (C.sets conds.new) }
     {
         let free = without_faults(conds, asked, &settled.held)?;
         let others = without(conds, live, asked)?;
-        let done = within(alloc, conds, &settled.done, free)?;
         let left = within(alloc, conds, &self.runs.gathered, others)?;
-        append(&mut self.prepared.list, &done)?;
+        let list = &mut self.prepared.list;
+        let pragmas = &mut self.runs.pragmas;
+        pragmas.put_outside(alloc, conds, names, &settled.done, free, list)?;
         hold(&mut self.runs.held, &settled.held)?;
         self.runs.gathered = settled.rest;
         append(&mut self.runs.gathered, &left)?;
@@ -203,7 +209,7 @@ fn copied(alloc: Global, list: &Guarded<Hidden>) -> Result<Guarded<Hidden>, OutO
 }
 
 /// Puts faults behind others.
-fn hold(held: &mut Vec<Fault>, more: &[Fault]) -> Result<(), OutOfMemory>
+pub fn hold(held: &mut Vec<Fault>, more: &[Fault]) -> Result<(), OutOfMemory>
     ensures { OnOk result (held.new.items ≡ held.old.items ++ more.now) }
 {
     for fault in more {
@@ -214,7 +220,7 @@ fn hold(held: &mut Vec<Fault>, more: &[Fault]) -> Result<(), OutOfMemory>
 
 /// The configurations of `all` that are none of `part`.
 #[tactic(auto, using(sc_model::proofs::SetLemmas::conditions))]
-fn without<C: Conditions>(conds: &mut C, all: Cond, part: Cond) -> Result<Cond, OutOfMemory>
+pub fn without<C: Conditions>(conds: &mut C, all: Cond, part: Cond) -> Result<Cond, OutOfMemory>
     requires all { IsCond (C.sets conds.old) all.0 }
     requires part { IsCond (C.sets conds.old) part.0 }
     ensures without { IfOk result (λ left. Denotes (C.sets conds.new) left.0
@@ -230,7 +236,7 @@ fn without<C: Conditions>(conds: &mut C, all: Cond, part: Cond) -> Result<Cond, 
 
 /// The configurations of `all` that have none of the faults.
 #[tactic(auto, using(sc_model::proofs::SetLemmas::conditions))]
-fn without_faults<C: Conditions>(
+pub fn without_faults<C: Conditions>(
     conds: &mut C,
     all: Cond,
     faults: &[Fault],

@@ -1,5 +1,5 @@
 //! The configurations that a space lists: those for which its text `valid` holds (C11 6.10.1).
-ghost use Rattle.std.specs.Prelude.{◌≡◌, All, IfErr, IfOk, length};
+ghost use Rattle.std.specs.Prelude.{◌≡◌, ℕ, All, IfErr, IfOk, List, length};
 ghost use Rattle.c11_directives.specs.Listed.{if_bytes, up_to};
 ghost use Rattle.c11_tokens.specs.Lex.{is_newline};
 ghost use Rattle.sc_base.specs.Seen.{IsHeld};
@@ -8,13 +8,14 @@ ghost use Rattle.sc_model.specs.Growth.{Extends};
 ghost use Rattle.sc_model.specs.Sets.{IsCond, Keeps};
 ghost use Rattle.sc_model.specs.Space.{arities_of};
 ghost use Rattle.sc_prep.specs.declared.valid.ValidStop.TheVariants as stop;
+ghost use Rattle.sc_prep.specs.New.{IsNew};
 ghost use Rattle.sc_prep.specs.Valid.{FailsValid, FindsLeast, IsValidSet, RefusesText, is_less};
 ghost use Rattle.sc_space.specs.Seen.{seen_space};
 ghost use Rattle.sc_space.specs.Sound.{IsSound};
 
 use crate::content::first_place;
 use crate::walk::Walk;
-use sc_base::{Cause, Cond, Fault, FileId, Files, Kind, Names, OutOfMemory, Stop, Token};
+use sc_base::{Cause, Cond, Fault, FileId, Files, Kind, Names, OutOfMemory, Place, Stop, Token};
 use sc_lex::{LexStop, tokens};
 use sc_presence::Conditions;
 use sc_space::Space;
@@ -75,8 +76,7 @@ pub fn valid_set<C: Conditions>(
     let file = files.intern("")?;
     let tokens = if_tokens(alloc, text.as_str(), file, &mut names)?;
     let line = first_line(&tokens);
-    let table = MacroTable::start(alloc, space, &mut names)?;
-    let mut walk = Walk::new(alloc, conds, table, first_place(file))?;
+    let mut walk = before_text(alloc, conds, space, &mut names, first_place(file))?;
     let all = conds.always();
     let valid = walk.decide_expression(
         alloc,
@@ -92,6 +92,27 @@ pub fn valid_set<C: Conditions>(
         Some(cause) => Err(ValidStop::Fault(cause)),
         None => Ok(valid),
     }
+}
+
+/// The walk before the text of a space, which knows the macros alone that no file defines.
+fn before_text<C: Conditions>(
+    alloc: Global,
+    conds: &mut C,
+    space: &Space,
+    names: &mut Names,
+    end: Place,
+) -> Result<Walk, OutOfMemory>
+    requires space { (C.sets conds.old).arities ≡ arities_of (seen_space space.now) }
+    requires sound { IsSound (seen_space space.now) }
+    ensures begins { IfOk result (λ walk. (files : List (List ℕ)) → IsNew (C.sets conds.new) (seen_space space.now) names.new files walk) }
+
+    // at every outcome
+    ensures names { Extends names.old names.new }
+    ensures keeps { Keeps (C.sets conds.old) (C.sets conds.new) }
+{
+    let table = MacroTable::start(alloc, space, names)?;
+    let walk = Walk::new(alloc, conds, table, end)?;
+    Ok(walk)
 }
 
 /// The tokens of the file that is one `#if` with this text behind it.

@@ -6,6 +6,7 @@ ghost use Rattle.c11_directives.specs.Pre.{State, with_text};
 ghost use Rattle.sc_prep.specs.Machine.{Machine, acting, acts, opened, next_branch, ended, refusing, refusing_if, start};
 ghost use Rattle.sc_prep.specs.Simulates.{IsBegun, Owns, SimulatesStep, Simulates};
 ghost use Rattle.sc_prep.specs.Apart.{GathersFrom};
+ghost use Rattle.sc_prep.specs.Pragmas.{HasNoPragma};
 ghost use Rattle.sc_prep.specs.Preprocesses.{OwnsList};
 ghost use Rattle.sc_lines.specs.Nests.{seen_line};
 ghost use Rattle.sc_prep.specs.Printable.{StaysHeld};
@@ -57,7 +58,7 @@ impl Walk {
         end: Place,
     ) -> Result<Walk, OutOfMemory>
         ensures owns { IfOk result (λ walk. Owns (C.sets conds.now) walk) }
-        ensures empty { IfOk result (λ walk. (walk.runs.gathered ≡ []) × (walk.runs.held.items ≡ []) × (walk.runs.read ≡ []) × (walk.once.items ≡ []) × (walk.prepared.list ≡ []) × (walk.prepared.faults.items ≡ [])) }
+        ensures empty { IfOk result (λ walk. (walk.runs.gathered ≡ []) × (walk.runs.held.items ≡ []) × (HasNoPragma (C.sets conds.now) walk.runs.pragmas) × (walk.runs.read ≡ []) × (walk.once.items ≡ []) × (walk.prepared.list ≡ []) × (walk.prepared.faults.items ≡ [])) }
         ensures table { IfOk result (λ walk. walk.table ≡ table) }
         ensures end { IfOk result (λ walk. walk.prepared.end ≡ end) }
         ensures starts { IfOk result (λ walk. (names files : List (List ℕ)) (config : List ℕ) (first : State) → IsConfig (C.sets conds.now).arities config
@@ -68,7 +69,7 @@ impl Walk {
             acting: conds.always(),
             sections: Vec::new(alloc),
             table,
-            runs: OpenRuns::new(alloc)?,
+            runs: OpenRuns::new(alloc, conds)?,
             once: Vec::new(alloc),
             prepared: Prepared {
                 list: Guarded::new(alloc)?,

@@ -20,3 +20,6 @@ returns-clause-moved g c = λ names t told.
     branches k4 w c.requires.owns c.pop.new.self.items section c.in-Some.ensures.items names t c.in_ok-group.group c.in_ok-untaken.untaken c.in_ok-acting.acting c.push_reserved.new.self
     c.push_reserved.ensures.items (Denotes-Keeps c.in_ok-acting.ensures.keeps taken)
     (Denotes-Keeps (Keeps-trans c.in_ok-group.ensures.keeps c.in_ok-acting.ensures.keeps) untaken) live
+
+pub returns-in_err-acting-clause-keeps : goal.returns-in_err-acting-clause-keeps
+returns-in_err-acting-clause-keeps g c = Keeps-trans (Keeps-trans c.in_ok-others.ensures.keeps c.in_ok-untaken.ensures.keeps) (Keeps-trans c.in_ok-group.ensures.keeps c.in_err-acting.ensures.keeps)

@@ -17,7 +17,7 @@ returns-then-is_never-clause-closes g c =
     }
 
 pub end_runs-requires : goal.end_runs-requires
-end_runs-requires g c = record { owns = c.in_ok-settle_runs.ensures.stays.simulates.owns }
+end_runs-requires g c = let stays = c.in_ok-settle_runs.ensures.stays in record { owns = stays.simulates.owns; held = λ k d h. (stays.held.runs.gathered k d h).0 }
 
 pub returns-clause-closes : goal.returns-clause-closes
 returns-clause-closes g c =

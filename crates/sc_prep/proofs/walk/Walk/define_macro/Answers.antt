@@ -13,3 +13,6 @@ returns-clause-moved g c = λ standard.
 
 pub returns-clause-keeps : goal.returns-clause-keeps
 returns-clause-keeps g c = Keeps-trans c.in_ok-refused.ensures.keeps c.in_ok-refuse.ensures.keeps
+
+pub returns-in_err-refuse-clause-keeps : goal.returns-in_err-refuse-clause-keeps
+returns-in_err-refuse-clause-keeps g c = Keeps-trans c.in_ok-refused.ensures.keeps c.in_err-refuse.ensures.keeps

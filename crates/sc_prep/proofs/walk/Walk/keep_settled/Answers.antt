@@ -1,6 +1,7 @@
 use Rattle.std.proofs.Common.{◌&&◌, ◌∙◌, ◌++◌, not, List, All, ap, refl, subst, sym}
 use Rattle.sc_base.specs.declared.fault.Fault.{Fault}
 use Rattle.sc_prep.proofs.Facts.{Denotes-Keeps, IsConfig-Keeps, Keeps-trans}
+use Rattle.sc_prep.proofs.PragmaMoves.{owns-pragmas}
 use Rattle.sc_prep.proofs.RunLemmas.{within-as, within-later}
 use Rattle.sc_prep.proofs.Terms.{Denotes, IsCond, has_none}
 use Rattle.sc_prep.proofs.walk.Walk.keep_settled.Goals as goal
@@ -9,58 +10,62 @@ pub without_faults-requires-clause-faults : goal.without_faults-requires-clause-
 without_faults-requires-clause-faults g c = subst (All (λ (f : Fault). IsCond (g.C.Conditions.sets c.args.conds.now) f.cond.0)) (sym c.deref.ensures.value) c.requires.faults
 
 pub within-requires-clause-own : goal.within-requires-clause-own
-within-requires-clause-own g c = λ k d h. (Keeps-trans c.in_ok-free.ensures.keeps c.in_ok-others.ensures.keeps).own _ (c.requires.done k d h)
+within-requires-clause-own g c = λ k d h. (Keeps-trans c.in_ok-free.ensures.keeps c.in_ok-others.ensures.keeps).own _ (c.requires.own k d h)
 
-pub within-requires-2-clause-own : goal.within-requires-2-clause-own
-within-requires-2-clause-own g c = λ k d h. (Keeps-trans c.in_ok-free.ensures.keeps (Keeps-trans c.in_ok-others.ensures.keeps c.in_ok-done.ensures.keeps)).own _ (c.requires.own k d h)
+pub put_outside-requires : goal.put_outside-requires
+put_outside-requires g c =
+    let later = Keeps-trans c.in_ok-others.ensures.keeps c.in_ok-left.ensures.keeps in
+    let all = Keeps-trans c.in_ok-free.ensures.keeps later in
+    record {
+      owns = owns-pragmas all c.requires.pragmas;
+      own = λ k d h. all.own _ (c.requires.done k d h);
+      by = later.own _ c.in_ok-free.ensures.without.own;
+      held = c.requires.held;
+    }
 
 pub returns-clause-puts : goal.returns-clause-puts
 returns-clause-puts g c =
     let old = g.C.Conditions.sets c.args.conds.now in
     let s1 = g.C.Conditions.sets c.without_faults.new.conds in
     let s2 = g.C.Conditions.sets c.without.new.conds in
-    let s3 = g.C.Conditions.sets c.within.new.conds in
     let live = c.args.live.0 in
     let asked = c.args.asked.0 in
-    let faults = c.args.settled.held.items in
     let k1 = c.in_ok-free.ensures.keeps in
     let k2 = c.in_ok-others.ensures.keeps in
-    let k3 = c.in_ok-done.ensures.keeps in
-    let free = Denotes-Keeps k2 (subst (λ (fs : List Fault). Denotes s1 c.in_ok-free.free.0 (λ config. old.has asked config && has_none old fs config)) c.deref.ensures.value c.in_ok-free.ensures.without) in
-    let others = Denotes-Keeps k3 c.in_ok-others.ensures.without in
+    let k3 = c.in_ok-left.ensures.keeps in
+    let k12 = Keeps-trans k1 k2 in
+    let free = subst (λ (fs : List Fault). Denotes s1 c.in_ok-free.free.0 (λ config. old.has asked config && has_none old fs config)) c.deref.ensures.value c.in_ok-free.ensures.without in
     record {
       same = refl;
-      done = c.in_ok-done.done;
+      middle = g.C.Conditions.sets c.within.new.conds;
+      until = Keeps-trans k12 k3;
+      later = c.in_ok-put_outside.ensures.keeps;
+      free = c.in_ok-free.free.0;
       left = c.in_ok-left.left;
-      list = c.in_ok-append.ensures;
-      gathered = c.in_ok-append-2.ensures;
+      gathered = c.in_ok-append.ensures;
       held = c.in_ok-hold.ensures ∙ ap (λ (fs : List Fault). c.args.self.now.runs.held.items ++ fs) c.deref-2.ensures.value;
-      puts = within-later (Keeps-trans k1 (Keeps-trans k2 k3)) c.in_ok-left.ensures.keeps
-          (within-as (s2.has c.in_ok-free.free.0) (λ config. old.has asked config && has_none old faults config) (Keeps-trans k1 k2) c.requires.done
-          (λ config listed. free.at config (IsConfig-Keeps (Keeps-trans k1 k2) listed)) c.in_ok-done.ensures.within);
-      stays = within-as (s3.has c.in_ok-others.others.0) (λ config. old.has live config && not (old.has asked config)) (Keeps-trans k1 (Keeps-trans k2 k3)) c.requires.own
+      is_free = Denotes-Keeps (Keeps-trans k2 k3) free;
+      puts = c.in_ok-put_outside.ensures.puts;
+      stays = within-later (Keeps-trans k12 k3) c.in_ok-put_outside.ensures.keeps (within-as (s2.has c.in_ok-others.others.0) (λ config. old.has live config && not (old.has asked config)) k12 c.requires.own
           (λ config listed.
-          others.at config (IsConfig-Keeps (Keeps-trans k1 (Keeps-trans k2 k3)) listed)
-          ∙ (λ i. k1.at live config c.requires.live listed i && not (k1.at asked config c.requires.asked listed i))) c.in_ok-left.ensures.within;
+          c.in_ok-others.ensures.without.at config (IsConfig-Keeps k12 listed)
+          ∙ (λ i. k1.at live config c.requires.live listed i && not (k1.at asked config c.requires.asked listed i))) c.in_ok-left.ensures.within);
     }
-
-pub returns-in_err-done-clause-keeps : goal.returns-in_err-done-clause-keeps
-returns-in_err-done-clause-keeps g c = Keeps-trans c.in_ok-free.ensures.keeps (Keeps-trans c.in_ok-others.ensures.keeps c.in_err-done.ensures.keeps)
-
-pub returns-in_err-left-clause-keeps : goal.returns-in_err-left-clause-keeps
-returns-in_err-left-clause-keeps g c = Keeps-trans c.in_ok-free.ensures.keeps (Keeps-trans c.in_ok-others.ensures.keeps (Keeps-trans c.in_ok-done.ensures.keeps c.in_err-left.ensures.keeps))
-
-pub returns-in_err-append-clause-keeps : goal.returns-in_err-append-clause-keeps
-returns-in_err-append-clause-keeps g c = Keeps-trans c.in_ok-free.ensures.keeps (Keeps-trans c.in_ok-others.ensures.keeps (Keeps-trans c.in_ok-done.ensures.keeps c.in_ok-left.ensures.keeps))
-
-pub returns-in_err-hold-clause-keeps : goal.returns-in_err-hold-clause-keeps
-returns-in_err-hold-clause-keeps g c = Keeps-trans c.in_ok-free.ensures.keeps (Keeps-trans c.in_ok-others.ensures.keeps (Keeps-trans c.in_ok-done.ensures.keeps c.in_ok-left.ensures.keeps))
-
-pub returns-in_err-append-2-clause-keeps : goal.returns-in_err-append-2-clause-keeps
-returns-in_err-append-2-clause-keeps g c = Keeps-trans c.in_ok-free.ensures.keeps (Keeps-trans c.in_ok-others.ensures.keeps (Keeps-trans c.in_ok-done.ensures.keeps c.in_ok-left.ensures.keeps))
-
-pub returns-clause-keeps : goal.returns-clause-keeps
-returns-clause-keeps g c = Keeps-trans c.in_ok-free.ensures.keeps (Keeps-trans c.in_ok-others.ensures.keeps (Keeps-trans c.in_ok-done.ensures.keeps c.in_ok-left.ensures.keeps))
 
 pub returns-in_err-others-clause-keeps : goal.returns-in_err-others-clause-keeps
 returns-in_err-others-clause-keeps g c = Keeps-trans c.in_ok-free.ensures.keeps c.in_err-others.ensures.keeps
+
+pub returns-in_err-left-clause-keeps : goal.returns-in_err-left-clause-keeps
+returns-in_err-left-clause-keeps g c = Keeps-trans c.in_ok-free.ensures.keeps (Keeps-trans c.in_ok-others.ensures.keeps c.in_err-left.ensures.keeps)
+
+pub returns-in_err-put_outside-clause-keeps : goal.returns-in_err-put_outside-clause-keeps
+returns-in_err-put_outside-clause-keeps g c = Keeps-trans c.in_ok-free.ensures.keeps (Keeps-trans c.in_ok-others.ensures.keeps (Keeps-trans c.in_ok-left.ensures.keeps c.in_err-put_outside.ensures.keeps))
+
+pub returns-in_err-hold-clause-keeps : goal.returns-in_err-hold-clause-keeps
+returns-in_err-hold-clause-keeps g c = Keeps-trans c.in_ok-free.ensures.keeps (Keeps-trans c.in_ok-others.ensures.keeps (Keeps-trans c.in_ok-left.ensures.keeps c.in_ok-put_outside.ensures.keeps))
+
+pub returns-in_err-append-clause-keeps : goal.returns-in_err-append-clause-keeps
+returns-in_err-append-clause-keeps g c = Keeps-trans c.in_ok-free.ensures.keeps (Keeps-trans c.in_ok-others.ensures.keeps (Keeps-trans c.in_ok-left.ensures.keeps c.in_ok-put_outside.ensures.keeps))
+
+pub returns-clause-keeps : goal.returns-clause-keeps
+returns-clause-keeps g c = Keeps-trans c.in_ok-free.ensures.keeps (Keeps-trans c.in_ok-others.ensures.keeps (Keeps-trans c.in_ok-left.ensures.keeps c.in_ok-put_outside.ensures.keeps))

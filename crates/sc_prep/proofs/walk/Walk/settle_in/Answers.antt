@@ -2,6 +2,7 @@ use Rattle.std.proofs.Common.{length, subst, sym}
 use Rattle.sc_expand.specs.Seen.{AreHeld, stores}
 use Rattle.sc_expand.specs.Settling.{IsSettled}
 use Rattle.sc_prep.proofs.Facts.{Keeps-trans}
+use Rattle.sc_prep.proofs.PragmaMoves.{owns-pragmas}
 use Rattle.sc_prep.proofs.SettleMoves.{has-settled, settled-stage, stays-stage}
 use Rattle.sc_prep.proofs.Terms.{macros_at}
 use Rattle.sc_prep.proofs.walk.Walk.settle_in.Goals as goal
@@ -20,7 +21,9 @@ keep_settled-requires g c =
     let keeps = c.in-Ok.ensures.keeps in
     record {
       own = λ k d h. keeps.own _ (c.requires.stored.owns.runs.gathered k d h);
+      pragmas = owns-pragmas keeps c.requires.stored.owns.runs.pragmas;
       done = c.in-Ok.ensures.held.own;
+      held = c.in-Ok.ensures.held.held;
       faults = c.in-Ok.ensures.held.faults_own;
       live = keeps.own _ c.requires.asked.live.own;
       asked = keeps.own _ c.requires.asked.own;
