@@ -23,4 +23,5 @@ SENTENCES = {
     "BadStringize": "The argument behind a # makes no string literal.",
     "BadToken": "No token of C is spelled so.",
     "Syntax": "The syntax of C11 does not go on with this token.",
+    "BadPragma": "This _Pragma is not followed by one string literal in parentheses.",
 }

@@ -54,6 +54,14 @@ class Forms(unittest.TestCase):
         read = document(b"root -\ns 0 m.c\nf 1 15 IncludeDepth 0:1:1\nend\n")
         self.assertIsNone(read.root)
 
+    def test_last_code(self) -> None:
+        for text in (M, b"root -\n" + M):
+            read = document(text + b"f 1 23 BadPragma 0:1:1\nend\n")
+            self.assertEqual(
+                [tuple(fault) for fault in read.faults],
+                [(1, 23, "BadPragma", Place("m.c", 1, 1))],
+            )
+
     def test_nothing(self) -> None:
         self.assertEqual(document(b"end\n").tokens, [])
 
@@ -144,6 +152,8 @@ WRONG = [
     (M + b"f 1 5 BadDirective 0:1:1\nt 1 0:1:1 x\nend\n", 3, "before the faults"),
     (M + b"f 1 5 BadDefine 0:1:1\nend\n", 2, "code 5 is not that of BadDefine"),
     (M + b"f 1 23 Syntax 0:1:1\nend\n", 2, "code 23 is not that of Syntax"),
+    (M + b"f 1 22 BadPragma 0:1:1\nend\n", 2, "code 22 is not that of BadPragma"),
+    (M + b"f 1 24 BadPragma 0:1:1\nend\n", 2, "code 24 is not that of BadPragma"),
     (M + b"f 1 22 Syntax 0:1:1\nend\n", 2, "code 22 is one of parsing"),
     (M + b"f 0 5 BadDirective 0:1:1\nend\n", 2, "holds somewhere"),
     (
