@@ -2,6 +2,7 @@
 //! nodes, after Bryant (1986), with any number of options a variable.
 #![tactic(auto)]
 
+mod answers;
 mod apply;
 mod between;
 mod choose;
@@ -10,6 +11,7 @@ mod example;
 mod known;
 mod node;
 mod operation;
+mod simplify;
 mod store;
 mod table;
 mod walk;

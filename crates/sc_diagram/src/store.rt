@@ -5,7 +5,9 @@ ghost use Rattle.sc_diagram.specs.Decision.{IsDecisionOf, numbers_of};
 ghost use Rattle.sc_diagram.specs.Diagram.{IsDiagram, ends_over, sets_of};
 ghost use Rattle.sc_diagram.specs.Grown.{Grows, AddsOnly};
 ghost use Rattle.sc_diagram.specs.Applied.{IsApplication, Applies, application};
+ghost use Rattle.sc_diagram.specs.Simplified.{AreAnswers};
 
+use crate::answers::{Answers, Question};
 use crate::apply::apply;
 use crate::between::between;
 use crate::choose::choose;
@@ -13,6 +15,7 @@ use crate::example::example;
 use crate::known::Known;
 use crate::node::{Decision, Node};
 use crate::operation::{Application, Operation};
+use crate::simplify::simplify;
 use crate::table::{ALWAYS, NEVER, Table};
 use crate::walk::leads_to_always;
 use sc_base::OutOfMemory;
@@ -23,22 +26,25 @@ use std::marker::Model;
 ///
 /// Each node stands for one set of configurations, for good: the store only grows, also where a
 /// call finds no memory. Nodes of one store that stand for the same set are one. An operation adds
-/// no node but those of its result's diagram, and goes as deep as there are variables.
+/// no node but those of its result's diagram, `simplify` aside, and goes as deep as there are
+/// variables.
 #[derive(Drop)]
 pub struct Store {
     table: Table,
     known: Known,
+    answers: Answers,
 }
 
 impl Model for Store {
     ghost use Rattle.sc_diagram.specs.Diagram.{Diagram};
     ghost use Rattle.sc_diagram.specs.Applied.{IsKnown};
+    ghost use Rattle.sc_diagram.specs.Simplified.{AreAnswers};
 
     ghost Value = { Diagram };
 
     ghost view = { λ s. s.table };
 
-    ghost invariant = { λ s. IsKnown s.table s.known };
+    ghost invariant = { λ s. IsKnown s.table s.known × AreAnswers s.table s.answers };
 }
 
 impl Store {
@@ -53,6 +59,7 @@ impl Store {
         Ok(Store {
             table: Table::new(alloc, arities)?,
             known: Known::new(alloc),
+            answers: Answers::new(alloc),
         })
     }
 
@@ -181,6 +188,27 @@ impl Store {
         ensures keeps { Keeps (sets_of self.old) (sets_of self.new) }
     {
         self.make(Operation::Part(variable, option), a, a)
+    }
+
+    /// A node that says what the given one says in the configurations of `within`. It decides by
+    /// none but the variables of that one, and often by fewer.
+    pub fn simplify(&mut self, a: Node, within: Node) -> Result<Node, OutOfMemory>
+        requires a_own { IsCond (sets_of self.old) a.0 }
+        requires within_own { IsCond (sets_of self.old) within.0 }
+        ensures own { IfOk result (λ r. IsCond (sets_of self.new) r.0) }
+        ensures meaning { IfOk result (λ r. (c : List ℕ) → IsConfig self.old.arities c → (sets_of self.old).has within.0 c ≡ true
+            → (sets_of self.new).has r.0 c ≡ (sets_of self.old).has a.0 c) }
+
+        // at every outcome
+        ensures grows { Grows self.old self.new }
+        ensures keeps { Keeps (sets_of self.old) (sets_of self.new) }
+    {
+        let asked = Question {
+            node: a.0,
+            within: within.0,
+        };
+        let node = simplify(&mut self.table, &mut self.known, &mut self.answers, asked)?;
+        Ok(Node(node))
     }
 
     /// Whether the node has the configuration.

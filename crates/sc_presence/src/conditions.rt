@@ -85,6 +85,18 @@ pub trait Conditions {
         // at every outcome
         ensures keeps { Keeps (sets self.old) (sets self.new) };
 
+    /// A condition that says what the given one says in the configurations of `within`. What it
+    /// says of the others is free, so it is often simpler (Coudert and Madre 1990).
+    fn simplify(&mut self, a: Cond, within: Cond) -> Result<Cond, OutOfMemory>
+        requires a_own { IsCond (sets self.old) a.0 }
+        requires within_own { IsCond (sets self.old) within.0 }
+        ensures own { IfOk result (λ r. IsCond (sets self.new) r.0) }
+        ensures meaning { IfOk result (λ r. (c : List ℕ) → IsConfig (sets self.old).arities c → (sets self.old).has within.0 c ≡ true
+            → (sets self.new).has r.0 c ≡ (sets self.old).has a.0 c) }
+
+        // at every outcome
+        ensures keeps { Keeps (sets self.old) (sets self.new) };
+
     /// The first variable on which the condition depends.
     fn top(&self, a: Cond) -> Option<usize>
         requires { IsCond (sets self.now) a.0 }

@@ -56,6 +56,11 @@ impl Conditions for Diagrams {
         Ok(Cond(node.0))
     }
 
+    fn simplify(&mut self, a: Cond, within: Cond) -> Result<Cond, OutOfMemory> {
+        let node = self.store.simplify(Node(a.0), Node(within.0))?;
+        Ok(Cond(node.0))
+    }
+
     fn part(&mut self, a: Cond, variable: usize, option: usize) -> Result<Cond, OutOfMemory> {
         let node = self.store.part(Node(a.0), variable, option)?;
         Ok(Cond(node.0))

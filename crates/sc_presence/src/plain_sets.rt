@@ -144,6 +144,11 @@ impl Conditions for PlainSets {
         self.intern(row)
     }
 
+    // a condition is one row, and none is simpler than another
+    fn simplify(&mut self, a: Cond, within: Cond) -> Result<Cond, OutOfMemory> {
+        Ok(a)
+    }
+
     fn part(&mut self, a: Cond, variable: usize, option: usize) -> Result<Cond, OutOfMemory> {
         let stride = self.stride(variable);
         let arity = self.arity(variable);

@@ -65,6 +65,13 @@ impl<C: Conditions> Conditions for Limited<C> {
         self.conds.part(a, variable, option)
     }
 
+    fn simplify(&mut self, a: Cond, within: Cond) -> Result<Cond, OutOfMemory> {
+        if !self.has_memory {
+            return Err(OutOfMemory);
+        }
+        self.conds.simplify(a, within)
+    }
+
     fn top(&self, a: Cond) -> Option<usize> {
         self.conds.top(a)
     }

@@ -1,4 +1,5 @@
 use Rattle.std.proofs.Common.{◌∙◌, Some, ap, refl, subst, sym}
+use Rattle.std.proofs.lemmas.Result.{err_from_is_err_and}
 use Rattle.std.specs.Prelude.{not}
 use Rattle.sc_core.proofs.Failing.{held_or, may-hold}
 use Rattle.sc_core.proofs.MadeSpaces.{made-sound}
@@ -44,3 +45,9 @@ returns-clause-error c = λ reading.
       why = subst (λ (files : Files). HasManyBranches (setting_of made_space made_name many.1.parser files)) c.in_ok-file.ensures (many.1.why (holds_of c.in_ok-file.file) refl);
       told = c.in_ok-branches_line-in-Err-BranchesFull.ensures ∙ ap branches_line many.0;
     }
+
+pub returns-in_err-branches_line-in-Err-BranchesFull-clause-error : goal.returns-in_err-branches_line-in-Err-BranchesFull-clause-error
+returns-in_err-branches_line-in-Err-BranchesFull-clause-error c = λ reading.
+    let exit = c.from_residual-in_err-branches_line-in-Err-BranchesFull in
+    let p = err_from_is_err_and exit.result exit.ensures.1 in
+    rw (p.1, p.2) tt

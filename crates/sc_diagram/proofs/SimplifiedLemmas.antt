@@ -1,0 +1,302 @@
+-- Simpler nodes: one step, and as the diagram grows.
+use Rattle.std.proofs.Common.{◌≡◌, ℕ, suc, ◌+◌, ◌-◌, ◌<◌, ◌≤◌, ◌==◌, ◌||◌, Bool, true, false, List, [], ◌∷◌, ◌++◌, length, min, Contains, ◌⊎◌, inl, inr, refl, sym, ◌∙◌, ap, subst, arith}
+use Rattle.std.specs.Prelude.{slice_index}
+use Rattle.std.proofs.lemmas.Bool.{cases_lt, false≢true}
+use Rattle.std.proofs.lemmas.List.{length_push, get_or_push, get_or_append_left}
+use Rattle.std.proofs.lemmas.Option.{get_or_from_slice_get, slice_get_within}
+use Rattle.sc_model.specs.Sets.{IsConfig}
+use Rattle.sc_diagram.specs.declared.answers.Question.{Question}
+use Rattle.sc_diagram.specs.declared.operation.Operation.TheVariants.{Or}
+use Rattle.sc_diagram.specs.Applied.{Applies, IsApplication, application, cofactor}
+use Rattle.sc_diagram.specs.Diagram.{Diagram, IsDiagram, branch, end_at, branch_of, variable_of, sets_of}
+use Rattle.sc_diagram.specs.Grown.{Grows, IsChoice, only, decides}
+use Rattle.sc_diagram.specs.Simplified.{Adds, AreAnswers, IsQuestion, IsWider, Simplifies, first_asked, question_at}
+use Rattle.sc_diagram.proofs.AppliedLemmas.{first-le, has_cofactor, later_cofactor, own_cofactor}
+use Rattle.sc_diagram.proofs.DiagramLemmas.{has_end, has_next, variable-le, variable_end}
+use Rattle.sc_diagram.proofs.GrownLemmas.{has-Grows, own-Grows, variable_of-Grows}
+
+-- ---- as the diagram grows
+
+module _ {d e : Diagram} (grows : Grows d e) where
+  pub IsQuestion-Grows : {asked : Question} → IsQuestion d asked → IsQuestion e asked
+  IsQuestion-Grows {asked} is = record { node = own-Grows grows asked.node is.node; within = own-Grows grows asked.within is.within }
+
+  pub Simplifies-Grows : {asked : Question} {r : ℕ} → Simplifies d asked r → Simplifies e asked r
+  Simplifies-Grows {asked} {r} is = record {
+    question = IsQuestion-Grows is.question;
+    own = own-Grows grows r is.own;
+    from = omega (arith, is.from, variable_of-Grows grows asked.node is.question.node, variable_of-Grows grows r is.own);
+    at = λ c listed has.
+        let was = subst (λ ns. IsConfig ns c) grows.arities listed in
+        has-Grows grows r c is.own was ∙ is.at c was (sym (has-Grows grows asked.within c is.question.within was) ∙ has)
+        ∙ sym (has-Grows grows asked.node c is.question.node was);
+  }
+
+  pub AreAnswers-Grows : {answers : List (Question × ℕ)} → AreAnswers d answers → AreAnswers e answers
+  AreAnswers-Grows are = record { each = λ p has. Simplifies-Grows (are.each p has) }
+
+-- one more answer
+pub AreAnswers-Adds : {d : Diagram} {old new : List (Question × ℕ)} {asked : Question} {r : ℕ} → Adds old new asked r → AreAnswers d old → Simplifies d asked r → AreAnswers d new
+AreAnswers-Adds {d} {old} {new} {asked} {r} adds are simplifies = record { each = λ p has. by p (adds.each p has) }
+  where
+    by : (p : Question × ℕ) → Contains old p ⊎ ((p.0 ≡ asked) × (p.1 ≡ r)) → Simplifies d p.0 p.1
+    by p (inl has) = are.each p has
+    by p (inr same) = subst (λ q. Simplifies d q p.1) (sym same.0) (subst (Simplifies d asked) (sym same.1) simplifies)
+
+-- ---- ends
+
+-- every configuration that is asked for has the node
+pub same-nodes : {d : Diagram} (valid : IsDiagram d) (asked : Question) → IsQuestion d asked → asked.node ≡ asked.within → Simplifies d asked 1
+same-nodes {d} valid asked is same = record {
+  question = is;
+  own = slice_get_within d.nodes 1 _ valid.always;
+  from = omega (arith, variable-le valid asked.node is.node, end);
+  at = λ c listed has. has_end valid c listed 1 (omega arith) ∙ sym (ap (λ n. (sets_of d).has n c) same ∙ has);
+}
+  where
+    end : variable_of d 1 ≡ length d.arities
+    end = variable_end valid 1 (omega arith)
+
+-- the node itself
+pub itself : {d : Diagram} (asked : Question) → IsQuestion d asked → Simplifies d asked asked.node
+itself {d} asked is = record { question = is; own = is.node; from = omega arith; at = λ c listed has. refl }
+
+-- ---- one step
+
+-- of the configurations that are asked for and have the option, r has those of the node; it decides
+-- by a later variable
+pub record IsForOption (d : Diagram) (asked : Question) (v k r : ℕ) : Type 0 where
+  pub own : r < length d.nodes
+  pub later : v < variable_of d r
+  pub at : (c : List ℕ) → IsConfig d.arities c → slice_index c v ≡ k → (sets_of d).has asked.within c ≡ true → (sets_of d).has r c ≡ (sets_of d).has asked.node c
+
+pub record AreForOptions (d : Diagram) (asked : Question) (v : ℕ) (results : List ℕ) : Type 0 where
+  pub each : (k : ℕ) → k < length results → IsForOption d asked v k (slice_index results k)
+
+IsForOption-Grows : {d e : Diagram} {asked : Question} {v k r : ℕ} → Grows d e → IsQuestion d asked → IsForOption d asked v k r → IsForOption e asked v k r
+IsForOption-Grows {d} {e} {asked} {v} {k} {r} grows is for = record {
+  own = own-Grows grows r for.own;
+  later = omega (arith, for.later, variable_of-Grows grows r for.own);
+  at = λ c listed chosen has.
+      let was = subst (λ ns. IsConfig ns c) grows.arities listed in
+      has-Grows grows r c for.own was ∙ for.at c was chosen (sym (has-Grows grows asked.within c is.within was) ∙ has)
+      ∙ sym (has-Grows grows asked.node c is.node was);
+}
+
+-- one more option, in a diagram that has grown
+pub AreForOptions-more : {d e : Diagram} {asked : Question} {v r : ℕ} {results : List ℕ} → Grows d e → IsQuestion d asked → AreForOptions d asked v results
+    → IsForOption e asked v (length results) r → AreForOptions e asked v (results ++ r ∷ [])
+AreForOptions-more {d} {e} {asked} {v} {r} {results} grows is are more = record {
+  each = λ k within. elim (cases_lt k (length results)) [
+    | inl old ↦ subst (IsForOption e asked v k) (sym (get_or_append_left results (r ∷ []) 0 k old)) (IsForOption-Grows grows is (are.each k old))
+    | inr past ↦ (
+        let at : k ≡ length results = omega (arith, within, length_push results r) in
+        let read : slice_index (results ++ r ∷ []) k ≡ r = get_or_push results r 0 k (sym at) in
+        subst (IsForOption e asked v k) (sym read) (subst (λ j. IsForOption e asked v j r) (sym at) more)
+        )
+  ];
+}
+
+-- d is the diagram where the question was asked, and e the one now
+module _ {d e : Diagram} {asked : Question} {v : ℕ} (is : IsQuestion d asked) (top : v ≡ variable_of d asked.node) (inner : v < length d.arities)
+    (low : v ≤ variable_of d asked.within) (grows : Grows d e) where
+  node_now : variable_of e asked.node ≡ v
+  node_now = variable_of-Grows grows asked.node is.node ∙ sym top
+
+  within_now : v ≤ variable_of e asked.within
+  within_now = omega (arith, low, variable_of-Grows grows asked.within is.within)
+
+  pub inner_now : v < length e.arities
+  inner_now = omega (arith, inner, ap length grows.arities)
+
+  -- so there is a call for each variable at most
+  pub deeper : (q : Question) (k : ℕ) → k < slice_index e.arities v → q ≡ question_at e asked v k → length e.arities - first_asked e q < length d.arities - first_asked d asked
+  deeper q k in_range same = subst (λ x. length e.arities - first_asked e x < length d.arities - first_asked d asked) (sym same)
+      (omega (arith, later_first, least, inner, ap length grows.arities, top))
+    where
+      now : IsQuestion e asked
+      now = IsQuestion-Grows grows is
+
+      later_first : v < first_asked e (question_at e asked v k)
+      later_first =
+          let node = later_cofactor grows.valid asked.node now.node v k inner_now in_range (omega (arith, node_now)) in
+          let within = later_cofactor grows.valid asked.within now.within v k inner_now in_range within_now in
+          omega (arith, node, within)
+
+      least : first_asked d asked ≤ v
+      least = omega (arith, (first-le (variable_of d asked.node) (variable_of d asked.within)).left, top)
+
+  pub question-at : (q : Question) (k : ℕ) → k < slice_index e.arities v → q ≡ question_at e asked v k → IsQuestion e q
+  question-at q k in_range same =
+      let now = IsQuestion-Grows grows is in
+      subst (IsQuestion e) (sym same) (record {
+        node = own_cofactor grows.valid asked.node now.node v k inner_now in_range;
+        within = own_cofactor grows.valid asked.within now.within v k inner_now in_range;
+      })
+
+  -- what was found for an option that is like this one
+  pub for-option : {f : Diagram} {q : Question} {r : ℕ} (k like : ℕ) → Grows e f → like < slice_index e.arities v → (cofactor e asked.within v k ≡ 0) ⊎ (like ≡ k)
+      → q ≡ question_at e asked v like → Simplifies f q r → IsForOption f asked v k r
+  for-option {f} {q} {r} k like more in_range cases same simplifies = record {
+    own = simplifies.own;
+    later = omega (arith, later, simplifies.from, ap (λ x. variable_of f x.node) same, variable_of-Grows more _ (own_cofactor grows.valid asked.node now.node v like inner_now in_range));
+    at = λ c listed chosen has.
+        let was = subst (λ ns. IsConfig ns c) more.arities listed in
+        let asked_for = sym (has-Grows more asked.within c now.within was) ∙ has in
+        elim cases [
+          | inl none ↦ absurd (false≢true (sym (has_end grows.valid c was 0 (omega arith)) ∙ sym (ap (λ n. (sets_of e).has n c) none) ∙ has_cofactor grows.valid asked.within now.within v k c was chosen ∙ asked_for))
+          | inr is_like ↦ (
+              let at = chosen ∙ sym is_like in
+              let within = has_cofactor grows.valid asked.within now.within v like c was at in
+              let node = has_cofactor grows.valid asked.node now.node v like c was at in
+              let within_more = has-Grows more _ c (own_cofactor grows.valid asked.within now.within v like inner_now in_range) was in
+              let node_more = has-Grows more _ c (own_cofactor grows.valid asked.node now.node v like inner_now in_range) was in
+              simplifies.at c listed (ap (λ x. (sets_of f).has x.within c) same ∙ within_more ∙ within ∙ asked_for)
+              ∙ ap (λ x. (sets_of f).has x.node c) same ∙ node_more ∙ node ∙ sym (has-Grows more asked.node c now.node was)
+              )
+        ];
+  }
+    where
+      now : IsQuestion e asked
+      now = IsQuestion-Grows grows is
+
+      later : v < variable_of e (cofactor e asked.node v like)
+      later = later_cofactor grows.valid asked.node now.node v like inner_now in_range (omega (arith, node_now))
+
+  -- the choice between the results is the answer
+  pub from-options : {f : Diagram} {results : List ℕ} (r : ℕ) → Grows e f → AreForOptions e asked v results → length results ≡ slice_index e.arities v → r < length f.nodes
+      → IsChoice f r v results → Simplifies f asked r
+  from-options {f} {results} r more are full own choice = record {
+    question = now;
+    own = own;
+    from = from choice;
+    at = λ c listed has.
+        let k = slice_index c v in
+        let in_range : k < length results = omega (arith, listed.each v (omega (arith, inner_now, ap length more.arities)), full, ap (λ ns. slice_index ns v) more.arities) in
+        chosen c listed in_range choice ∙ (each k in_range).at c listed refl has;
+  }
+    where
+      now : IsQuestion f asked
+      now = IsQuestion-Grows more (IsQuestion-Grows grows is)
+
+      each : (k : ℕ) → k < length results → IsForOption f asked v k (slice_index results k)
+      each k in_range = IsForOption-Grows more (IsQuestion-Grows grows is) (are.each k in_range)
+
+      some : 0 < length results
+      some = omega (arith, full, grows.valid.options.each v inner_now)
+
+      node_then : variable_of f asked.node ≡ v
+      node_then = variable_of-Grows more asked.node (own-Grows grows asked.node is.node) ∙ node_now
+
+      from : IsChoice f r v results → variable_of f asked.node ≤ variable_of f r
+      from (only all) = omega (arith, node_then, (each 0 some).later, ap (variable_of f) (all 0 some))
+      from (decides at) = omega (arith, node_then, ap (λ b. b.variable) (get_or_from_slice_get f.nodes r (branch v results) (end_at f.arities r) at))
+
+      chosen : (c : List ℕ) → IsConfig f.arities c → slice_index c v < length results → IsChoice f r v results → (sets_of f).has r c ≡ (sets_of f).has (slice_index results (slice_index c v)) c
+      chosen c listed in_range (only all) = ap (λ m. (sets_of f).has m c) (sym (all (slice_index c v) in_range))
+      chosen c listed in_range (decides at) =
+          has_next more.valid c listed r own
+          ∙ ap (λ b. (sets_of f).has (slice_index b.children (slice_index c b.variable)) c) (get_or_from_slice_get f.nodes r (branch v results) (end_at f.arities r) at)
+
+-- the answer where more is asked for
+pub from-wider : {d e f : Diagram} {asked : Question} {wider r : ℕ} → IsQuestion d asked → Grows d e → Grows e f → IsWider e asked.within wider
+    → Simplifies f (record { node = asked.node; within = wider }) r → Simplifies f asked r
+from-wider {d} {e} {f} {asked} {wider} {r} is grows more is_wider simplifies = record {
+  question = IsQuestion-Grows more now;
+  own = simplifies.own;
+  from = simplifies.from;
+  at = λ c listed has.
+      let was = subst (λ ns. IsConfig ns c) more.arities listed in
+      simplifies.at c listed (has-Grows more wider c is_wider.own was ∙ is_wider.at c was (sym (has-Grows more asked.within c now.within was) ∙ has));
+}
+  where
+    now : IsQuestion e asked
+    now = IsQuestion-Grows grows is
+
+-- no end is at a variable
+pub inner-node : {d : Diagram} {asked : Question} {v : ℕ} (valid : IsDiagram d) → IsQuestion d asked → 1 < asked.node → v ≡ variable_of d asked.node → v < length d.arities
+inner-node {d} {asked} valid is inner top = omega (arith, top, (valid.decisions asked.node inner is.node).within)
+
+pub later-options : {d : Diagram} {asked : Question} {v : ℕ} {results : List ℕ} → AreForOptions d asked v results → (k : ℕ) → k < length results → v < variable_of d (slice_index results k)
+later-options are k in_range = (are.each k in_range).later
+
+-- there is a call for each variable at most, also where more is asked for
+pub deeper-wider : {d e : Diagram} {asked : Question} {wider : ℕ} → IsQuestion d asked → IsDiagram d → Grows d e → IsWider e asked.within wider → variable_of d asked.within < variable_of d asked.node
+    → length e.arities - first_asked e (record { node = asked.node; within = wider }) < length d.arities - first_asked d asked
+deeper-wider {d} {e} {asked} {wider} is valid grows is_wider low =
+    omega (arith, least, later, inner, ap length grows.arities)
+  where
+    least : first_asked d asked ≤ variable_of d asked.within
+    least = (first-le (variable_of d asked.node) (variable_of d asked.within)).right
+
+    inner : variable_of d asked.within < length d.arities
+    inner = omega (arith, low, variable-le valid asked.node is.node)
+
+    node_later : variable_of d asked.within < variable_of e asked.node
+    node_later = omega (arith, low, variable_of-Grows grows asked.node is.node)
+
+    wider_later : variable_of d asked.within < variable_of e wider
+    wider_later = omega (arith, is_wider.later, variable_of-Grows grows asked.within is.within)
+
+    later : variable_of d asked.within < first_asked e (record { node = asked.node; within = wider })
+    later = omega (arith, node_later, wider_later)
+
+-- ---- more than is asked for
+
+-- r has the configurations of the node with one of so many first options, and decides by a variable
+-- behind v
+pub record WidensBelow (d : Diagram) (node v count r : ℕ) : Type 0 where
+  pub own : r < length d.nodes
+  pub later : v < variable_of d r
+  pub at : (c : List ℕ) → IsConfig d.arities c → slice_index c v < count → (sets_of d).has node c ≡ true → (sets_of d).has r c ≡ true
+
+pub widens-none : {d : Diagram} {node v : ℕ} → IsDiagram d → v < length d.arities → WidensBelow d node v 0 0
+widens-none {d} {node} {v} valid within = record {
+  own = slice_get_within d.nodes 0 _ valid.never;
+  later = omega (arith, within, variable_end valid 0 (omega arith));
+  at = λ c listed chosen has. absurd (omega (arith, chosen));
+}
+
+-- either is enough
+either : (x y : Bool) → (x ≡ true) ⊎ (y ≡ true) → (x || y) ≡ true
+either true y is = refl
+either false y (inl is) = absurd (false≢true is)
+either false y (inr is) = is
+
+module _ {d : Diagram} {node v wider k : ℕ} (valid : IsDiagram d) (own : node < length d.nodes) (within : v < length d.arities) (in_range : k < slice_index d.arities v)
+    (low : v ≤ variable_of d node) (below : WidensBelow d node v k wider) where
+  pub or-asked : IsApplication d (application Or wider (cofactor d node v k))
+  or-asked = record { operation = tt; left = below.own; right = own_cofactor valid node own v k within in_range }
+
+  pub widens-more : {e : Diagram} {r : ℕ} → Grows d e → Applies e (application Or wider (cofactor d node v k)) r → WidensBelow e node v (k + 1) r
+  widens-more {e} {r} grows applies = record {
+    own = applies.own;
+    later = applies.from (suc v) (omega (arith, below.later, variable_of-Grows grows wider below.own))
+        (omega (arith, later_cofactor valid node own v k within in_range low, variable_of-Grows grows _ own_part));
+    at = λ c listed chosen has.
+        let was = subst (λ ns. IsConfig ns c) grows.arities listed in
+        let had = sym (has-Grows grows node c own was) ∙ has in
+        applies.at c listed ∙ either _ _ (elim (cases_lt (slice_index c v) k) [
+          | inl less ↦ inl (has-Grows grows wider c below.own was ∙ below.at c was less had)
+          | inr more ↦ inr (has-Grows grows _ c own_part was ∙ has_cofactor valid node own v k c was (omega (arith, chosen, more)) ∙ had)
+        ]);
+  }
+    where
+      own_part : cofactor d node v k < length d.nodes
+      own_part = own_cofactor valid node own v k within in_range
+
+-- all options are done
+pub widens-all : {d e : Diagram} {node v count r : ℕ} → Grows d e → node < length d.nodes → v ≡ variable_of d node → v < length e.arities → count ≡ slice_index e.arities v
+    → WidensBelow e node v count r → IsWider e node r
+widens-all {d} {e} {node} {v} grows own top within count below = record {
+  own = below.own;
+  later = omega (arith, below.later, top, variable_of-Grows grows node own);
+  at = λ c listed has. below.at c listed (omega (arith, count, listed.each v within)) has;
+}
+
+-- what is asked for is told of the diagram in which it was asked
+pub keeps-asked : {d e : Diagram} {asked : Question} {r : ℕ} → Grows d e → IsQuestion d asked → Simplifies e asked r
+    → (c : List ℕ) → IsConfig d.arities c → (sets_of d).has asked.within c ≡ true → (sets_of e).has r c ≡ (sets_of d).has asked.node c
+keeps-asked {d} {e} {asked} {r} grows is simplifies c listed has =
+    let now = subst (λ ns. IsConfig ns c) (sym grows.arities) listed in
+    simplifies.at c now (has-Grows grows asked.within c is.within listed ∙ has) ∙ has-Grows grows asked.node c is.node listed

@@ -1,0 +1,44 @@
+-- Nodes that are asked for in some configurations alone.
+use Rattle.std.specs.Prelude.{◌≡◌, ℕ, ◌<◌, ◌≤◌, ◌⊎◌, List, Contains, length, min, true}
+use Rattle.sc_model.specs.Sets.{IsConfig}
+use Rattle.sc_diagram.specs.declared.answers.Question.{Question}
+use Rattle.sc_diagram.specs.Applied.{cofactor}
+use Rattle.sc_diagram.specs.Diagram.{Diagram, sets_of, variable_of}
+
+-- the nodes of the question are there
+pub record IsQuestion (d : Diagram) (asked : Question) : Type 0 where
+  pub node : asked.node < length d.nodes
+  pub within : asked.within < length d.nodes
+
+-- r has, of the configurations that are asked for, those that the node has, and decides by no
+-- earlier variable
+pub record Simplifies (d : Diagram) (asked : Question) (r : ℕ) : Type 0 where
+  pub question : IsQuestion d asked
+  pub own : r < length d.nodes
+  pub from : variable_of d asked.node ≤ variable_of d r
+  pub at : (c : List ℕ) → IsConfig d.arities c → (sets_of d).has asked.within c ≡ true → (sets_of d).has r c ≡ (sets_of d).has asked.node c
+
+-- each pair is a question and what it came to
+pub record AreAnswers (d : Diagram) (answers : List (Question × ℕ)) : Type 0 where
+  pub each : (e : Question × ℕ) → Contains answers e → Simplifies d e.0 e.1
+
+-- each pair was there, or is this one
+pub record Adds (old new : List (Question × ℕ)) (asked : Question) (r : ℕ) : Type 0 where
+  pub each : (e : Question × ℕ) → Contains new e → Contains old e ⊎ ((e.0 ≡ asked) × (e.1 ≡ r))
+
+-- the question on what remains of its nodes where a variable has an option
+abbrev pub question_at : Diagram → Question → ℕ → ℕ → Question
+question_at d asked variable option = record {
+  node = cofactor d asked.node variable option;
+  within = cofactor d asked.within variable option;
+}
+
+-- the first variable by which its nodes decide
+abbrev pub first_asked : Diagram → Question → ℕ
+first_asked d asked = min (variable_of d asked.node) (variable_of d asked.within)
+
+-- r has all configurations of the node, and decides by a later variable
+pub record IsWider (d : Diagram) (node r : ℕ) : Type 0 where
+  pub own : r < length d.nodes
+  pub later : variable_of d node < variable_of d r
+  pub at : (c : List ℕ) → IsConfig d.arities c → (sets_of d).has node c ≡ true → (sets_of d).has r c ≡ true
