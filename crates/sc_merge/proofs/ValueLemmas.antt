@@ -1,5 +1,5 @@
 -- The values of two stacks, made one.
-use Rattle.std.proofs.Common.{◌≡◌, ℕ, suc, ◌+◌, ◌<◌, ◌≤◌, true, List, [], ◌∷◌, ◌++◌, length, map, take, get_or, reverse, Option, Some, None, is_some, Result, Ok, Err, IfSome, OnOk, OnErr, All, slice_get, refl, ap, sym, subst, ◌∙◌, append_assoc, arith, if◌then◌else◌}
+use Rattle.std.proofs.Common.{◌≡◌, ℕ, suc, ◌+◌, ◌<◌, ◌≤◌, true, List, [], ◌∷◌, ◌++◌, length, map, take, get_or, reverse, Option, Some, None, is_some, Result, Ok, Err, IfSome, OnOk, OnErr, All, slice_get, inl, inr, refl, ap, sym, subst, ◌∙◌, append_assoc, arith, if◌then◌else◌}
 use Rattle.std.proofs.lemmas.List.Elements.{All-append, All-cons, All-head, All-nil, All-tail}
 use Rattle.std.proofs.lemmas.List.{append-nil, get_or-map, length-map, map-append, reverse-append, reverse-reverse, take_more}
 use Rattle.c11_parsing.specs.Trees.{Tree}
@@ -15,7 +15,7 @@ use Rattle.sc_model.specs.Growth.{Extends}
 use Rattle.sc_model.specs.Sets.{Sets, IsConfig, IsCond}
 use Rattle.sc_model.proofs.SetLemmas.{Keeps-refl}
 use Rattle.sc_scope.specs.Kinds.{IsOnlyIn}
-use Rattle.sc_tree.specs.Lines.{Line, choice}
+use Rattle.sc_tree.specs.Lines.{AddsAtMost, Line, choice}
 use Rattle.sc_tree.specs.Reads.{Grows, choice_reads}
 use Rattle.sc_tree.proofs.ReadLemmas.{Reads-Grows}
 
@@ -134,16 +134,17 @@ adds-more {here} {there} {a} {b} {d} first second = record {
   choices = All-append (IsChoice here there) first.added second.added first.choices second.choices;
 }
 
--- a choice was made, or there was no memory
+-- there is a choice, or there was no memory
 pub adds-one : (here there : Cond) (left right : TreeId) (old new : List Line) (result : Result TreeId OutOfMemory)
-    → OnOk result (new ≡ old ++ choice ((here, left) ∷ ((there, right) ∷ [])) ∷ []) → OnErr result (new ≡ old) → AddsChoices here there old new
-adds-one here there left right old new (Ok id) ok err = record {
+    → OnOk result (AddsAtMost old new (choice ((here, left) ∷ ((there, right) ∷ [])))) → OnErr result (new ≡ old) → AddsChoices here there old new
+adds-one here there left right old new (Ok id) (inl same) err = subst (AddsChoices here there old) (sym same) (adds-none here there old)
+adds-one here there left right old new (Ok id) (inr more) err = record {
   added = choice ((here, left) ∷ ((there, right) ∷ [])) ∷ [];
-  is = ok;
+  is = more;
   choices = All-cons (IsChoice here there) (choice ((here, left) ∷ ((there, right) ∷ []))) [] (record { left = left; right = right; is = refl })
       (All-nil (IsChoice here there));
 }
-adds-one here there left right old new (Err e) ok err = record { added = []; is = err ∙ sym (append-nil old); choices = All-nil (IsChoice here there) }
+adds-one here there left right old new (Err e) ok err = subst (AddsChoices here there old) (sym err) (adds-none here there old)
 
 -- ---- the loop
 

@@ -2,6 +2,7 @@ ghost use Rattle.std.specs.Prelude.{◌≡◌, true};
 ghost use Rattle.sc_tree.specs.Views.{line_of};
 
 use sc_base::{Cond, Name, Place, TreeId};
+use std::hash::{DefaultHasher, Hash, Hasher};
 
 /// A tree as the store keeps it. Its subtrees were put into the store before it.
 #[derive(PartialEq, Eq, Hash, Drop)]
@@ -26,4 +27,11 @@ pub(crate) fn is_same(a: &Line, b: &Line) -> bool
     ensures told { line_of a.now ≡ line_of b.now → result ≡ true }
 {
     a == b
+}
+
+/// A number by which a line is looked up. Other lines may have it too.
+pub(crate) fn hash_of(line: &Line) -> u64 {
+    let mut state = DefaultHasher::new();
+    line.hash(&mut state);
+    state.finish()
 }

@@ -10,7 +10,7 @@ ghost use Rattle.sc_tree.specs.Reads.{Reads, Spells};
 ghost use Rattle.sc_tree.specs.Views.{line_of, line_seen};
 
 use crate::declared::declared;
-use crate::line::{Line, TreeView, is_same};
+use crate::line::{Line, TreeView, hash_of, is_same};
 use crate::parameters::parameters;
 use indexmap::IndexMap;
 use sc_base::{Cond, Name, OutOfMemory, Place, Stop, TreeId};
@@ -22,9 +22,10 @@ use std::marker::Model;
 #[derive(Drop)]
 pub struct Trees {
     lines: Vec<Line>,
-    /// Which trees calls for shared ones gave. An entry is compared with its tree when it is found,
-    /// since a tree for which there was no memory leaves one behind.
-    shared: IndexMap<Line, TreeId>,
+    /// Which trees calls for shared ones gave, by their hashes. An entry is compared with its tree
+    /// when it is found: another one may have the same hash, and a tree for which there was no
+    /// memory leaves an entry behind.
+    shared: IndexMap<u64, TreeId>,
 }
 
 impl Model for Trees {
@@ -91,11 +92,7 @@ impl Trees {
         ensures grows { Extends self.old self.new }
         ensures first { ChildrenFirst self.new }
     {
-        let key = Line::Leaf(place, spelling);
-        if let Some(id) = self.known(&key) {
-            return Ok(id);
-        }
-        self.put_shared(key, Line::Leaf(place, spelling))
+        self.share(Line::Leaf(place, spelling))
     }
 
     /// A node of a production with these children from left to right: the last tree where that is
@@ -117,28 +114,24 @@ impl Trees {
         ensures first { ChildrenFirst self.new }
     {
         let alloc = *self.lines.allocator();
-        let key = Line::Node(production, Vec::from_slice(alloc, children)?);
-        if let Some(id) = self.known(&key) {
-            return Ok(id);
-        }
-        let line = Line::Node(production, Vec::from_slice(alloc, children)?);
-        self.put_shared(key, line)
+        self.share(Line::Node(production, Vec::from_slice(alloc, children)?))
     }
 
-    /// Makes a choice between trees, each under its condition.
+    /// A choice between trees, each under its condition: the last tree where that is one, or that
+    /// which such a call gave before, or else a new one.
     pub fn choice(&mut self, branches: &[(Cond, TreeId)]) -> Result<TreeId, OutOfMemory>
         requires { All (λ branch. branch.1.0 < length self.old) branches.now }
         ensures own { IfOk result (λ id. id.0 < length self.new) }
         ensures named { IfOk result (λ id. slice_get self.new id.0 ≡ Some (choice branches.now)) }
-        ensures adds { OnOk result (self.new ≡ self.old ++ choice branches.now ∷ []) }
+        ensures adds { OnOk result (AddsAtMost self.old self.new (choice branches.now)) }
         ensures err { OnErr result (self.new ≡ self.old) }
 
         // at every outcome
         ensures grows { Extends self.old self.new }
         ensures first { ChildrenFirst self.new }
     {
-        let branches = Vec::from_slice(*self.lines.allocator(), branches)?;
-        self.put(Line::Choice(branches))
+        let alloc = *self.lines.allocator();
+        self.share(Line::Choice(Vec::from_slice(alloc, branches)?))
     }
 
     /// What the tree of an id is.
@@ -204,8 +197,29 @@ impl Trees {
         let _lines = &self.lines;
     }
 
+    /// The last tree where it is this, or the tree that a call for a shared one gave, or else a new
+    /// one.
+    fn share(&mut self, line: Line) -> Result<TreeId, OutOfMemory>
+        requires { All (λ child. child.0 < length self.old) (children_of (line_of line)) }
+        ensures own { IfOk result (λ id. id.0 < length self.new) }
+        ensures named { IfOk result (λ id. slice_get self.new id.0 ≡ Some (line_of line)) }
+        ensures adds { OnOk result (AddsAtMost self.old self.new (line_of line)) }
+        ensures err { OnErr result (self.new ≡ self.old) }
+
+        // at every outcome
+        ensures last { slice_get self.old (length self.old - 1) ≡ Some (line_of line) → self.new ≡ self.old }
+        ensures grows { Extends self.old self.new }
+        ensures first { ChildrenFirst self.new }
+    {
+        let hash = hash_of(&line);
+        match self.known(hash, &line) {
+            Some(id) => Ok(id),
+            None => self.put_shared(hash, line),
+        }
+    }
+
     /// The last tree where it is this, or the tree that a call for a shared one gave.
-    fn known(&self, line: &Line) -> Option<TreeId>
+    fn known(&self, hash: u64, line: &Line) -> Option<TreeId>
         ensures own { IfSome result (λ id. id.0 < length self.now) }
         ensures named { IfSome result (λ id. slice_get self.now id.0 ≡ Some (line_of line.now)) }
         ensures last { result ≡ None → slice_get self.now (length self.now - 1) ≡ Some (line_of line.now) → ⊥ }
@@ -214,7 +228,7 @@ impl Trees {
         if self.is_last(line) {
             return Some(TreeId(self.lines.len() - 1));
         }
-        let id = *self.shared.get(line)?;
+        let id = *self.shared.get(&hash)?;
         if id.0 < self.lines.len() && is_same(&self.lines[id.0], line) {
             Some(id)
         } else {
@@ -231,7 +245,7 @@ impl Trees {
         }
     }
 
-    fn put_shared(&mut self, key: Line, line: Line) -> Result<TreeId, OutOfMemory>
+    fn put_shared(&mut self, hash: u64, line: Line) -> Result<TreeId, OutOfMemory>
         requires { All (λ child. child.0 < length self.old) (children_of (line_of line)) }
         ensures own { IfOk result (λ id. id.0 < length self.new) }
         ensures named { IfOk result (λ id. slice_get self.new id.0 ≡ Some (line_of line)) }
@@ -239,7 +253,7 @@ impl Trees {
         ensures err { OnErr result (self.new ≡ self.old) }
         ensures first { ChildrenFirst self.new }
     {
-        self.shared.insert(key, TreeId(self.lines.len()))?;
+        self.shared.insert(hash, TreeId(self.lines.len()))?;
         self.put(line)
     }
 
