@@ -20,7 +20,7 @@ use Rattle.sc_fork.specs.Seen.{action_in}
 use Rattle.sc_merge.specs.declared.subparser.Phase.TheVariants.{Between, At, Named}
 use Rattle.sc_merge.specs.declared.subparser.Subparser.{Subparser}
 use Rattle.sc_merge.specs.Keys.{AreAlike}
-use Rattle.sc_merge.specs.Merges.{AddsChoices, IsChoice, OwnsSubparser}
+use Rattle.sc_merge.specs.Merges.{AddsPartings, IsParting, OwnsSubparser}
 use Rattle.sc_model.specs.Sets.{Sets, IsCond, Keeps}
 use Rattle.sc_stack.specs.Entries.{states_of, values_of}
 use Rattle.sc_tree.specs.Lines.{Line, leaf, choice, branches_of, OwnsBranches}
@@ -84,13 +84,13 @@ if-made P (Err e) piece is holds = tt
 pub at-all : {A : Type 0} (P : A → Type 0) (xs : List A) (i : ℕ) (x : A) → All P xs → slice_get xs i ≡ Some x → P x
 at-all P xs i x all at = subst P (get_or_from_slice_get xs i x x at) (all i x (slice_get_within xs i x at))
 
-pub merge-leaves : (list : List (Cond × Token)) (here there : Cond) (old new : List Line) → AddsChoices here there old new → AddsLeaves list old new
-merge-leaves list here there old new adds = record {
+pub merge-leaves : (list : List (Cond × Token)) {sets : Sets} {a b : Cond} (old new : List Line) → AddsPartings sets a b old new → AddsLeaves list old new
+merge-leaves list {sets} {a} {b} old new adds = record {
   added = adds.added;
   is = adds.is;
   leaves = λ i place spelling at.
-      let made : IsChoice here there (leaf place spelling) = at-all (IsChoice here there) adds.added i (leaf place spelling) adds.choices at in
-      let apart : leaf place spelling ≡ choice ((here, made.left) ∷ ((there, made.right) ∷ [])) = made.is in
+      let made : IsParting sets a b (leaf place spelling) = at-all (IsParting sets a b) adds.added i (leaf place spelling) adds.choices at in
+      let apart : leaf place spelling ≡ choice ((made.here, made.is.left) ∷ ((made.there, made.is.right) ∷ [])) = made.is.is in
       absurd (cc);
 }
 
@@ -99,19 +99,20 @@ append-cases [] ys i x at = inr (i, at)
 append-cases (z ∷ xs) ys zero x at = inl at
 append-cases (z ∷ xs) ys (suc i) x at = append-cases xs ys i x at
 
-pub merge-branches : (old new : Sets) (lines added : List Line) (here there : Cond) → Keeps old new → OwnsBranches old lines → IsCond old here.0 → IsCond old there.0
-    → AddsChoices here there lines added → OwnsBranches new added
-merge-branches old new lines added here there keeps own own_here own_there adds =
+pub merge-branches : (old new : Sets) (lines added : List Line) (a b : Cond) → Keeps old new → OwnsBranches old lines → AddsPartings new a b lines added → OwnsBranches new added
+merge-branches old new lines added a b keeps own adds =
     subst (OwnsBranches new) (sym adds.is) (record { each = λ i line at. by i line (append-cases lines adds.added i line at) })
   where
-    both : (left right : TreeId) → All (λ (branch : Cond × TreeId). IsCond new branch.0.0) ((here, left) ∷ ((there, right) ∷ []))
-    both left right =
-        All-cons (λ (branch : Cond × TreeId). IsCond new branch.0.0) (here, left) ((there, right) ∷ []) (keeps.own here.0 own_here)
-        (All-cons (λ (branch : Cond × TreeId). IsCond new branch.0.0) (there, right) [] (keeps.own there.0 own_there) (All-nil (λ (branch : Cond × TreeId). IsCond new branch.0.0)))
+    both : (here there : Cond) (left right : TreeId) → IsCond new here.0 → IsCond new there.0
+        → All (λ (branch : Cond × TreeId). IsCond new branch.0.0) ((here, left) ∷ ((there, right) ∷ []))
+    both here there left right own_here own_there =
+        All-cons (λ (branch : Cond × TreeId). IsCond new branch.0.0) (here, left) ((there, right) ∷ []) own_here
+        (All-cons (λ (branch : Cond × TreeId). IsCond new branch.0.0) (there, right) [] own_there (All-nil (λ (branch : Cond × TreeId). IsCond new branch.0.0)))
 
     by : (i : ℕ) (line : Line) → (slice_get lines i ≡ Some line) ⊎ ((j : ℕ) × (slice_get adds.added j ≡ Some line))
         → All (λ (branch : Cond × TreeId). IsCond new branch.0.0) (branches_of line)
     by i line (inl at) = λ k d below. keeps.own (get_or (branches_of line) k d).0.0 (own.each i line at k d below)
     by i line (inr found) =
-        let made : IsChoice here there line = at-all (IsChoice here there) adds.added found.0 line adds.choices found.1 in
-        subst (λ x. All (λ (branch : Cond × TreeId). IsCond new branch.0.0) (branches_of x)) (sym made.is) (both made.left made.right)
+        let made : IsParting new a b line = at-all (IsParting new a b) adds.added found.0 line adds.choices found.1 in
+        subst (λ x. All (λ (branch : Cond × TreeId). IsCond new branch.0.0) (branches_of x)) (sym made.is.is)
+        (both made.here made.there made.is.left made.is.right made.parts.own_here made.parts.own_there)

@@ -19,10 +19,11 @@ use Rattle.sc_fork.specs.Enabled.{IsEnabled, can_split, can_reduce, can_shift, c
 use Rattle.sc_fork.specs.Pieces.{AddsOwnChoices}
 use Rattle.sc_fork.specs.Seen.{IsSeen}
 use Rattle.sc_merge.specs.declared.subparser.Subparser.{Subparser}
-use Rattle.sc_merge.specs.Merges.{AddsChoices, IsChoice, tables_with}
+use Rattle.sc_merge.specs.Merges.{AddsPartings, IsParting, tables_with}
 use Rattle.sc_model.proofs.ListLemmas.{slice_get-front}
 use Rattle.sc_model.proofs.SetLemmas.{IsConfig-Keeps, IsConfig-kept}
 use Rattle.sc_model.specs.Sets.{Sets, IsConfig, IsCond, IsNever, Keeps}
+use Rattle.sc_scope.specs.Kinds.{IsOnlyIn}
 use Rattle.sc_tree.specs.Lines.{Line, choice, OwnsBranches}
 
 -- a choice stays sound as the conditions grow
@@ -72,40 +73,41 @@ sound-two new here there left right apart first second =
       possible = All-cons P (here, left) rest first (All-cons P (there, right) [] second (All-nil P));
     }
 
-sound-merge : (old new : Sets) (lines added : List Line) (here there : Cond) → AddsChoices here there lines added → AreDisjoint new here.0 there.0 → (IsNever new here.0 → ⊥)
-    → (IsNever new there.0 → ⊥) → Keeps old new → OwnsBranches old lines → AreSound old lines → AreSound new added
-sound-merge old new lines added here there adds apart first second keeps own sound =
+-- two conditions, each of which has a configuration alone, are parted by sound choices
+sound-merge : (old new : Sets) (lines added : List Line) (a b : Cond) → AddsPartings new a b lines added → (c : List ℕ) × IsOnlyIn new a b c → (c : List ℕ) × IsOnlyIn new b a c
+    → Keeps old new → OwnsBranches old lines → AreSound old lines → AreSound new added
+sound-merge old new lines added a b adds first second keeps own sound =
     sound-more old new lines adds.added added adds.is keeps own sound (λ i branches at. by i branches at)
   where
     by : (i : ℕ) (branches : List (Cond × TreeId)) → slice_get adds.added i ≡ Some (choice branches) → IsSoundChoice new branches
     by i branches at =
-        let line : IsChoice here there (choice branches) =
-        subst (IsChoice here there) (get_or_from_slice_get adds.added i (choice branches) (choice branches) at)
+        let line : IsParting new a b (choice branches) =
+        subst (IsParting new a b) (get_or_from_slice_get adds.added i (choice branches) (choice branches) at)
         (adds.choices i (choice branches) (slice_get_within adds.added i (choice branches) at))
         in
-        let same : branches ≡ (here, line.left) ∷ ((there, line.right) ∷ []) = cc (line.is) in
-        subst (IsSoundChoice new) (sym same) (sound-two new here there line.left line.right apart first second)
+        let same : branches ≡ (line.here, line.is.left) ∷ ((line.there, line.is.right) ∷ []) = cc (line.is.is) in
+        subst (IsSoundChoice new) (sym same) (sound-two new line.here line.there line.is.left line.is.right line.parts.apart
+        (λ never. true≢false (sym (line.parts.first first.0 first.1) ∙ never.none first.0 first.1.listed))
+        (λ never. true≢false (sym (line.parts.second second.0 second.1) ∙ never.none second.0 second.1.listed)))
 
--- a condition that is seen has a configuration
-some-config : (old new : Sets) (lines : List Line) (names files : List (List ℕ)) (input : Input) (a : Subparser) (s : core.Subparser) → Keeps old new → input.arities ≡ old.arities
-    → IsSeen (tables_with old lines names files) input a s → IsNever new a.cond.0 → ⊥
-some-config old new lines names files input a s keeps arities seen never =
-    let c = seen.possible.config in
-    let was : IsConfig old.arities c = subst (λ ns. IsConfig ns c) arities seen.possible.is_config in
-    true≢false (sym seen.possible.has ∙ seen.has c seen.possible.is_config ∙ sym (keeps.at a.cond.0 c seen.owns.cond was) ∙ never.none c (IsConfig-Keeps keeps was))
-
-conditions-apart : (old new : Sets) (lines : List Line) (names files : List (List ℕ)) (input : Input) (a b : Subparser) (s t : core.Subparser) → Keeps old new → input.arities ≡ old.arities
-    → IsSeen (tables_with old lines names files) input a s → IsSeen (tables_with old lines names files) input b t → IsApart input s t → AreDisjoint new a.cond.0 b.cond.0
-conditions-apart old new lines names files input a b s t keeps arities seen_a seen_b apart c config has other =
-    let was = IsConfig-kept keeps config in
-    let here : IsConfig input.arities c = subst (λ ns. IsConfig ns c) (sym arities) was in
-    let inside = seen_a.has c here ∙ sym (keeps.at a.cond.0 c seen_a.owns.cond was) ∙ has in
-    let also = seen_b.has c here ∙ sym (keeps.at b.cond.0 c seen_b.owns.cond was) ∙ other in
-    true≢false (sym also ∙ apart.outside c here inside)
+-- a condition that is seen has a configuration, which another one that is apart has not
+only-in : (old new : Sets) (lines : List Line) (names files : List (List ℕ)) (input : Input) (a b : Subparser) (s t : core.Subparser) → Keeps old new → input.arities ≡ old.arities
+    → IsSeen (tables_with old lines names files) input a s → IsSeen (tables_with old lines names files) input b t → IsApart input s t → (c : List ℕ) × IsOnlyIn new a.cond b.cond c
+only-in old new lines names files input a b s t keeps arities seen_a seen_b apart =
+    let c = seen_a.possible.config in
+    let here = seen_a.possible.is_config in
+    let was : IsConfig old.arities c = subst (λ ns. IsConfig ns c) arities here in (
+      c,
+      record {
+        listed = IsConfig-Keeps keeps was;
+        inside = keeps.at a.cond.0 c seen_a.owns.cond was ∙ sym (seen_a.has c here) ∙ seen_a.possible.has;
+        outside = keeps.at b.cond.0 c seen_b.owns.cond was ∙ sym (seen_b.has c here) ∙ apart.outside c here seen_a.possible.has;
+      },
+    )
 
 pub choices-sound : (old new : Sets) (lines added : List Line) (names files : List (List ℕ)) (input : Input) (before : View) (seen : core.Core) (e : Event) (can : Enabled) → Keeps old new
     → OwnsBranches old lines → IsCore (tables_with old lines names files) input before seen → Stands input seen → IsEnabled before.source before.subparsers e can
-    → AddsOwnChoices lines added can → AreSound old lines → AreSound new added
+    → AddsOwnChoices new lines added can → AreSound old lines → AreSound new added
 choices-sound old new lines added names files input before seen _ _ keeps own is stands (can_split n i s has phase) adds sound = sound-none old new lines added adds keeps own sound
 choices-sound old new lines added names files input before seen _ _ keeps own is stands (can_reduce n j p s has phase action) adds sound =
     sound-none old new lines added adds keeps own sound
@@ -117,8 +119,8 @@ choices-sound old new lines added names files input before seen _ _ keeps own is
     let first = row-seen w input before.subparsers seen.rows n s is.rows has_n in
     let second = row-seen w input before.subparsers seen.rows o t is.rows has_o in
     let away = rows-apart input seen n o first.other second.other stands apart first.at second.at in
+    let back = rows-apart input seen o n second.other first.other stands (λ same. apart (sym same)) second.at first.at in
     let arities = is.source.arities in
     sound-merge old new lines added s.cond t.cond adds
-    (conditions-apart old new lines names files input s t first.other second.other keeps arities first.seen second.seen away)
-    (some-config old new lines names files input s first.other keeps arities first.seen) (some-config old new lines names files input t second.other keeps arities second.seen) keeps own
-    sound
+    (only-in old new lines names files input s t first.other second.other keeps arities first.seen second.seen away)
+    (only-in old new lines names files input t s second.other first.other keeps arities second.seen first.seen back) keeps own sound

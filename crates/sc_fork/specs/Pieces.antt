@@ -24,7 +24,7 @@ use Rattle.sc_grammar.specs.C11.{productions}
 use Rattle.sc_merge.specs.declared.subparser.Phase.TheVariants.{At, Between, Named}
 use Rattle.sc_merge.specs.declared.subparser.Subparser.{Subparser}
 use Rattle.sc_merge.specs.Keys.{AreAlike}
-use Rattle.sc_merge.specs.Merges.{AddsChoices, KeepsShown}
+use Rattle.sc_merge.specs.Merges.{AddsPartings, KeepsShown}
 use Rattle.sc_model.specs.Sets.{Sets, Denotes}
 use Rattle.sc_stack.specs.Entries.{states_of}
 use Rattle.sc_tree.specs.Lines.{Line}
@@ -49,10 +49,10 @@ AreMade old new lines added source (enabled.Shift s j) pieces = Events old new l
 AreMade old new lines added source (enabled.Classify s j) pieces = Events old new lines added source s core.classify pieces
 AreMade old new lines added source (enabled.Merge s t) pieces = AreMerged old new lines added s t pieces
 
--- only a merge adds choices, between the conditions of its two subparsers
-abbrev pub AddsOwnChoices : List Line → List Line → Enabled → Type 0
-AddsOwnChoices lines added (enabled.Merge s t) = AddsChoices s.cond t.cond lines added
-AddsOwnChoices lines added _ = AddsNoChoices lines added
+-- only a merge adds choices, between conditions that part its two subparsers
+abbrev pub AddsOwnChoices : Sets → List Line → List Line → Enabled → Type 0
+AddsOwnChoices sets lines added (enabled.Merge s t) = AddsPartings sets s.cond t.cond lines added
+AddsOwnChoices sets lines added _ = AddsNoChoices lines added
 
 -- ---- the phases of the pieces
 

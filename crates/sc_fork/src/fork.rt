@@ -367,7 +367,7 @@ fn pieces_of<C: Conditions>(
     ensures order { IfOk result (λ pieces. AreInOrder enabled.entry pieces.items) }
 
     // at every outcome
-    ensures choices { AddsOwnChoices trees.old trees.new enabled.entry }
+    ensures choices { AddsOwnChoices (C.sets conds.new) trees.old trees.new enabled.entry }
     ensures adds { AddsOwnNode trees.old trees.new enabled.entry }
     ensures leaves { AddsLeaves source.now.list.now trees.old trees.new }
     ensures keeps { Keeps (C.sets conds.old) (C.sets conds.new) }

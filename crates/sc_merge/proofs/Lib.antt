@@ -1,4 +1,5 @@
 pub mod KeyLemmas
 pub mod MergeLemmas
+pub mod PartLemmas
 pub mod ShowLemmas
 pub mod ValueLemmas

@@ -1,12 +1,12 @@
 -- What becomes of two subparsers that are merged.
-use Rattle.std.specs.Prelude.{◌≡◌, ℕ, ◌<◌, List, [], ◌∷◌, ◌++◌, Option, is_some, IfSome, All}
+use Rattle.std.specs.Prelude.{◌≡◌, ℕ, ◌<◌, true, List, [], ◌∷◌, ◌++◌, Option, is_some, IfSome, All}
 use Rattle.c11_parsing.specs.Bindings as plain
 use Rattle.c11_parsing.specs.Trees.{Tree}
 use Rattle.sc_base.specs.declared.id.Cond.{Cond}
 use Rattle.sc_base.specs.declared.id.TreeId.{TreeId}
 use Rattle.sc_merge.specs.declared.subparser.Subparser.{Subparser}
 use Rattle.sc_merge.specs.Shows.{ValueReads, ShowsAt}
-use Rattle.sc_model.specs.Sets.{Sets, IsCond}
+use Rattle.sc_model.specs.Sets.{Sets, IsCond, IsConfig}
 use Rattle.sc_scope.specs.Kinds.{IsOnlyIn}
 use Rattle.sc_scope.specs.Search.{OwnsLevels}
 use Rattle.sc_scope.specs.Seen.{levels_in}
@@ -39,6 +39,28 @@ pub record AddsChoices (here there : Cond) (old new : List Line) : Type 0 where
   pub added : List Line
   pub is : new ≡ old ++ added
   pub choices : All (IsChoice here there) added
+
+-- Conditions that are apart: the one holds where only the first of two others does, the other where
+-- only the second does.
+pub record Parts (sets : Sets) (a b here there : Cond) : Type 0 where
+  pub own_here : IsCond sets here.0
+  pub own_there : IsCond sets there.0
+  pub apart : (c : List ℕ) → IsConfig sets.arities c → sets.has here.0 c ≡ true → sets.has there.0 c ≡ true → ⊥
+  pub first : (c : List ℕ) → IsOnlyIn sets a b c → sets.has here.0 c ≡ true
+  pub second : (c : List ℕ) → IsOnlyIn sets b a c → sets.has there.0 c ≡ true
+
+-- a choice of two trees, between conditions that part these
+pub record IsParting (sets : Sets) (a b : Cond) (line : Line) : Type 0 where
+  pub here : Cond
+  pub there : Cond
+  pub parts : Parts sets a b here there
+  pub is : IsChoice here there line
+
+-- the store has more such choices, and nothing else is new
+pub record AddsPartings (sets : Sets) (a b : Cond) (old new : List Line) : Type 0 where
+  pub added : List Line
+  pub is : new ≡ old ++ added
+  pub choices : All (IsParting sets a b) added
 
 -- where only the first condition holds, the new value stands for what the old one did; it is a tree
 -- where that one is

@@ -1,6 +1,6 @@
 ghost use Rattle.std.specs.Prelude.{◌≡◌, ◌||◌, ℕ, Bool, List, length, map, is_some, IfOk};
 ghost use Rattle.sc_merge.specs.Keys.{AreAlike};
-ghost use Rattle.sc_merge.specs.Merges.{AddsChoices, KeepsShown, KeepValues, OwnsSubparser, OwnsValues};
+ghost use Rattle.sc_merge.specs.Merges.{AddsChoices, AddsPartings, KeepsShown, KeepValues, OwnsSubparser, OwnsValues, Parts};
 ghost use Rattle.sc_model.specs.Growth.{Extends};
 ghost use Rattle.sc_model.specs.Sets.{Denotes, IsCond, Keeps};
 ghost use Rattle.sc_scope.specs.Kinds.{KeepsKinds};
@@ -19,7 +19,8 @@ use sc_tree::Trees;
 use std::alloc::Global;
 
 /// One subparser for the configurations of two that have equal keys. Where their trees differ it
-/// has choices. What it shows in a configuration that both have is not told.
+/// has choices, and names are bound, under simple conditions that part the two. What it shows in a
+/// configuration that both have is not told.
 pub fn merge<C: Conditions>(
     alloc: Global,
     conds: &mut C,
@@ -45,12 +46,13 @@ pub fn merge<C: Conditions>(
 
     // at every outcome
     ensures keeps { Keeps (C.sets conds.old) (C.sets conds.new) }
-    ensures adds { AddsChoices a.now.cond b.now.cond trees.old trees.new }
+    ensures adds { AddsPartings (C.sets conds.new) a.now.cond b.now.cond trees.old trees.new }
     ensures grows { Extends trees.old trees.new }
     ensures numbers { Extends (levels_made numbers.old) (levels_made numbers.new) }
 {
-    let stack = merged_stack(alloc, trees, a.cond, a.stack, b.cond, b.stack)?;
-    let scopes = merged_scopes(conds, numbers, a.cond, a.scopes, b.cond, b.scopes)?;
+    let (here, there) = parted(conds, a.cond, b.cond)?;
+    let stack = merged_stack(alloc, trees, here, a.stack, there, b.stack)?;
+    let scopes = merged_scopes(conds, numbers, here, a.scopes, there, b.scopes)?;
     let cond = conds.apply_or(a.cond, b.cond)?;
     Ok(Subparser {
         cond,
@@ -58,6 +60,23 @@ pub fn merge<C: Conditions>(
         scopes,
         phase: a.phase,
     })
+}
+
+/// Conditions by which the trees and names of the one and of the other are told apart. What they
+/// say of the configurations that neither has is free, so they are simple.
+#[tactic(auto, using(sc_model::proofs::SetLemmas::conditions))]
+fn parted<C: Conditions>(conds: &mut C, a: Cond, b: Cond) -> Result<(Cond, Cond), OutOfMemory>
+    requires a_own { IsCond (C.sets conds.old) a.0 }
+    requires b_own { IsCond (C.sets conds.old) b.0 }
+    ensures parts { IfOk result (λ pair. Parts (C.sets conds.new) a b pair.0 pair.1) }
+
+    // at every outcome
+    ensures keeps { Keeps (C.sets conds.old) (C.sets conds.new) }
+{
+    let either = conds.apply_or(a, b)?;
+    let there = conds.simplify(b, either)?;
+    let here = conds.negate(there)?;
+    Ok((here, there))
 }
 
 /// The states of both, with the trees on both sides.

@@ -49,23 +49,20 @@ merge-requires-clause-silent g c =
 pub returns-in_err-merged-in-Merge-clause-branches : goal.returns-in_err-merged-in-Merge-clause-branches
 returns-in_err-merged-in-Merge-clause-branches g c =
     let s = g.C.Conditions.sets in
-    let own = rw c.in-Merge.is at c.requires.own in
     merge-branches (s c.args.conds.now) (s c.merge.new.conds) c.args.trees.now c.merge.new.trees c.in-Merge.left.cond c.in-Merge.right.cond c.merge.ensures.keeps c.requires.branches
-    own.0.owns.cond own.1.owns.cond c.merge.ensures.adds
+    c.merge.ensures.adds
 
 pub returns-in_err-piece-in-Merge-clause-branches : goal.returns-in_err-piece-in-Merge-clause-branches
 returns-in_err-piece-in-Merge-clause-branches g c =
     let s = g.C.Conditions.sets in
-    let own = rw c.in-Merge.is at c.requires.own in
     merge-branches (s c.args.conds.now) (s c.merge.new.conds) c.args.trees.now c.merge.new.trees c.in-Merge.left.cond c.in-Merge.right.cond c.merge.ensures.keeps c.requires.branches
-    own.0.owns.cond own.1.owns.cond c.merge.ensures.adds
+    c.merge.ensures.adds
 
 pub returns-in_err-vec-in-Merge-clause-branches : goal.returns-in_err-vec-in-Merge-clause-branches
 returns-in_err-vec-in-Merge-clause-branches g c =
     let s = g.C.Conditions.sets in
-    let own = rw c.in-Merge.is at c.requires.own in
     merge-branches (s c.args.conds.now) (s c.merge.new.conds) c.args.trees.now c.merge.new.trees c.in-Merge.left.cond c.in-Merge.right.cond c.merge.ensures.keeps c.requires.branches
-    own.0.owns.cond own.1.owns.cond c.merge.ensures.adds
+    c.merge.ensures.adds
 
 pub returns-in-Split-clause-own : goal.returns-in-Split-clause-own
 returns-in-Split-clause-own g c = c.split.ensures.own (length c.args.trees.now) (rw c.in-Split.is at c.requires.own)
@@ -105,9 +102,8 @@ returns-in_ok-vec-in-Merge-clause-own g c =
 pub returns-in_ok-vec-in-Merge-clause-branches : goal.returns-in_ok-vec-in-Merge-clause-branches
 returns-in_ok-vec-in-Merge-clause-branches g c =
     let s = g.C.Conditions.sets in
-    let own = rw c.in-Merge.is at c.requires.own in
     merge-branches (s c.args.conds.now) (s c.merge.new.conds) c.args.trees.now c.merge.new.trees c.in-Merge.left.cond c.in-Merge.right.cond c.merge.ensures.keeps c.requires.branches
-    own.0.owns.cond own.1.owns.cond c.merge.ensures.adds
+    c.merge.ensures.adds
 
 pub returns-in_ok-vec-in-Reduce-clause-phases : goal.returns-in_ok-vec-in-Reduce-clause-phases
 returns-in_ok-vec-in-Reduce-clause-phases g c = rw c.in-Reduce.is
@@ -149,13 +145,13 @@ returns-in_ok-vec-in-Merge-clause-numbered g c =
     (c.in_ok-vec-in-Merge.ensures.items ∙ ap (λ piece. piece ∷ []) c.in_ok-piece-in-Merge.ensures) c.in_ok-merged-in-Merge.ensures.numbered
 
 pub returns-in_err-merged-in-Merge-clause-leaves : goal.returns-in_err-merged-in-Merge-clause-leaves
-returns-in_err-merged-in-Merge-clause-leaves g c = merge-leaves _ _ _ _ _ c.merge.ensures.adds
+returns-in_err-merged-in-Merge-clause-leaves g c = merge-leaves _ _ _ c.merge.ensures.adds
 
 pub returns-in_err-piece-in-Merge-clause-leaves : goal.returns-in_err-piece-in-Merge-clause-leaves
-returns-in_err-piece-in-Merge-clause-leaves g c = merge-leaves _ _ _ _ _ c.merge.ensures.adds
+returns-in_err-piece-in-Merge-clause-leaves g c = merge-leaves _ _ _ c.merge.ensures.adds
 
 pub returns-in_err-vec-in-Merge-clause-leaves : goal.returns-in_err-vec-in-Merge-clause-leaves
-returns-in_err-vec-in-Merge-clause-leaves g c = merge-leaves _ _ _ _ _ c.merge.ensures.adds
+returns-in_err-vec-in-Merge-clause-leaves g c = merge-leaves _ _ _ c.merge.ensures.adds
 
 pub returns-in_ok-vec-in-Merge-clause-leaves : goal.returns-in_ok-vec-in-Merge-clause-leaves
-returns-in_ok-vec-in-Merge-clause-leaves g c = merge-leaves _ _ _ _ _ c.merge.ensures.adds
+returns-in_ok-vec-in-Merge-clause-leaves g c = merge-leaves _ _ _ c.merge.ensures.adds
