@@ -7,6 +7,7 @@ pub mod CloseMoves
 pub mod ComesFrom
 pub mod Contents
 pub mod DirectiveStops
+pub mod EndMoves
 pub mod EnterLeads
 pub mod EnterMoves
 pub mod ExpandedBefore

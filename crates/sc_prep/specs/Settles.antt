@@ -1,5 +1,5 @@
 -- What settling a list leaves of it, and what ends runs that have settled.
-use Rattle.std.specs.Prelude.{◌≡◌, ◌⊎◌, ℕ, ◌&&◌, ◌++◌, not, true, List, [], map}
+use Rattle.std.specs.Prelude.{◌≡◌, ◌⊎◌, ℕ, ◌&&◌, ◌++◌, not, true, List, [], All, map}
 use Rattle.c11_macros.specs.Expansion.{Expands}
 use Rattle.c11_macros.specs.Hidden.{Failure}
 use Rattle.c11_macros.specs.Text.{place_alone}
@@ -7,6 +7,7 @@ use Rattle.sc_base.specs.declared.fault.Fault.{Fault}
 use Rattle.sc_base.specs.declared.id.Cond.{Cond}
 use Rattle.sc_base.specs.declared.place.Place.{Place}
 use Rattle.sc_base.specs.declared.token.Token.{Token}
+use Rattle.sc_base.specs.Seen.{IsHeld}
 use Rattle.sc_expand.specs.Closing.{IsClosed}
 use Rattle.sc_expand.specs.Open.{closed}
 use Rattle.sc_expand.specs.Seen.{seen_failure}
@@ -46,6 +47,26 @@ pub record KeepsSettled (names : List (List ℕ)) (old : Sets) (walk : Walk) (li
 -- faults as items of a list
 abbrev pub fault_items : List Fault → List (Cond × Failure Place)
 fault_items faults = map (λ fault. (fault.cond, seen_failure fault)) faults
+
+-- the store made what the list settled to, and the table of texts has its tokens
+pub record OwnsSettled (s : Sets) (names : List (List ℕ)) (settled : Settled) : Type 0 where
+  pub done : All (λ item. IsCond s item.0.0) settled.done
+  pub held : All (λ item. IsHeld names item.1) settled.done
+  pub faults : All (λ fault. IsCond s fault.cond.0) settled.held.items
+
+-- The text of the configurations that act is taken out, as what it becomes where nothing follows
+-- it, with the faults that hold them. What is gathered, and held, stays for the others.
+pub record TakesEnded (old : Sets) (walk : Walk) (new : Sets) (next : Walk) (taken : Expanded) : Type 0 where
+  pub e : Expanded
+  pub closed : IsClosed old new walk.runs.gathered walk.acting.0 e
+  pub ended : List Fault
+  pub ends : IsWithin old (fault_items walk.runs.held.items) (old.has walk.acting.0) new (fault_items ended)
+  pub list : taken.list ≡ e.list
+  pub faults : taken.faults.items ≡ e.faults.items ++ ended
+  pub same : next ≡ record walk { runs = record walk.runs { gathered = next.runs.gathered; held = next.runs.held; read = next.runs.read } }
+  pub gathered : IsWithin old walk.runs.gathered (λ c. not (old.has walk.acting.0 c)) new next.runs.gathered
+  pub held : IsWithin old (fault_items walk.runs.held.items) (λ c. not (old.has walk.acting.0 c)) new (fault_items next.runs.held.items)
+  pub read : EndsRead old walk.runs.read walk.acting.0 walk.prepared.live.0 new next.runs.read
 
 -- The runs of the configurations that act end: what waits there is closed, and what holds them is
 -- their fault. What is gathered, and held, stays for the others.

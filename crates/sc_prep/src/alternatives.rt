@@ -41,7 +41,8 @@ pub fn alternatives<C: Conditions>(
     ensures held { IfOk result (λ r. (names : List (List ℕ)) → All (λ item. IsHeld names item.1) list.now → EachToken (IsHeld names) r.items) }
     ensures passed { IfOk result (λ r. (test : base.Token → Bool) → All (λ item. test item.1 ≡ true) list.now → EachToken (λ t. test t ≡ true) r.items) }
     ensures stops { IfErr result (StopsBy (C.sets conds.old).arities limit) }
-    ensures lists { IfErr result (StopsByLists (C.sets conds.old).arities (λ c. (C.sets conds.old).has cond.0 c) (λ c. places_at (C.sets conds.old) list.now c) limit) }
+    ensures lists { IfErr result (StopsByLists (C.sets conds.old).arities (λ c. (C.sets conds.old).has cond.0 c)
+        (λ c. places_at (C.sets conds.old) list.now c) limit) }
 
     // at every outcome
     ensures keeps { Keeps (C.sets conds.old) (C.sets conds.new) }

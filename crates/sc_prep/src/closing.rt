@@ -7,7 +7,7 @@ ghost use Rattle.sc_prep.specs.Closes.{IsWithin, RefusesEach};
 ghost use Rattle.sc_prep.specs.Machine.{acts};
 ghost use Rattle.sc_prep.specs.Read.{tokens_read};
 ghost use Rattle.sc_prep.specs.Simulates.{Closed, Owns};
-ghost use Rattle.sc_prep.specs.Settles.{EndsRuns, fault_items};
+ghost use Rattle.sc_prep.specs.Settles.{EndsRuns, TakesEnded, fault_items};
 ghost use Rattle.sc_subst.specs.Seen.{IsHeldHidden};
 ghost use Rattle.sc_prep.specs.Stages.{IsStored, LineStage, StopsStage};
 
@@ -15,7 +15,7 @@ use crate::settling::hold;
 use crate::walk::Walk;
 use sc_base::{Cond, Fault, Files, Names, OutOfMemory, Stop};
 use sc_expand::close;
-use sc_guarded::Guarded;
+use sc_guarded::{Expanded, Guarded};
 use sc_presence::Conditions;
 use sc_subst::Hidden;
 use std::alloc::Global;
@@ -66,21 +66,40 @@ impl Walk {
         ensures keeps { Keeps (C.sets conds.old) (C.sets conds.new) }
     {
         let acting = self.acting;
-        let closed = close(alloc, conds, &self.runs.gathered, acting)?;
+        let ended = self.take_ended(alloc, conds)?;
+        let mut faults = ended.faults;
+        let list = &mut self.prepared.list;
+        let pragmas = &mut self.runs.pragmas;
+        pragmas.finish(alloc, conds, names, &ended.list, acting, list, &mut faults)?;
+        self.refuse_each(conds, &faults)?;
+        Ok(())
+    }
+
+    /// Takes out what waits for the configurations that act, as what it is where nothing follows
+    /// it, with the faults that hold them.
+    #[tactic(auto, using(sc_model::proofs::SetLemmas::conditions))]
+    fn take_ended<C: Conditions>(
+        &mut self,
+        alloc: Global,
+        conds: &mut C,
+    ) -> Result<Expanded, OutOfMemory>
+        requires { Owns (C.sets conds.old) self.old }
+        ensures takes { IfOk result (TakesEnded (C.sets conds.old) self.old (C.sets conds.new) self.new) }
+
+        // at every outcome
+        ensures keeps { Keeps (C.sets conds.old) (C.sets conds.new) }
+    {
+        let acting = self.acting;
+        let mut ended = close(alloc, conds, &self.runs.gathered, acting)?;
         let others = conds.negate(acting)?;
         let gathered = within(alloc, conds, &self.runs.gathered, others)?;
-        let ended = faults_within(alloc, conds, &self.runs.held, acting)?;
+        let holding = faults_within(alloc, conds, &self.runs.held, acting)?;
         let held = faults_within(alloc, conds, &self.runs.held, others)?;
         self.runs.gathered = gathered;
         self.runs.held = held;
         self.runs.end(alloc, conds, acting, self.prepared.live)?;
-        let mut faults = closed.faults;
-        hold(&mut faults, &ended)?;
-        let list = &mut self.prepared.list;
-        let pragmas = &mut self.runs.pragmas;
-        pragmas.finish(alloc, conds, names, &closed.list, acting, list, &mut faults)?;
-        self.refuse_each(conds, &faults)?;
-        Ok(())
+        hold(&mut ended.faults, &holding)?;
+        Ok(ended)
     }
 
     /// The configurations of these faults are refused.
@@ -190,7 +209,8 @@ pub fn faults_within<C: Conditions>(
 ) -> Result<Vec<Fault>, OutOfMemory>
     requires own { All (λ fault. IsCond (C.sets conds.old) fault.cond.0) faults.now }
     requires by_own { IsCond (C.sets conds.old) by.0 }
-    ensures within { IfOk result (λ kept. IsWithin (C.sets conds.old) (fault_items faults.now) ((C.sets conds.old).has by.0) (C.sets conds.new) (fault_items kept.items)) }
+    ensures within { IfOk result (λ kept. IsWithin (C.sets conds.old) (fault_items faults.now) ((C.sets conds.old).has by.0) (C.sets conds.new) (fault_items
+        kept.items)) }
 
     // at every outcome
     ensures keeps { Keeps (C.sets conds.old) (C.sets conds.new) }

@@ -189,7 +189,8 @@ fn taken<C: Conditions>(
     requires table { IsTable (C.sets conds.old) names.now table.old }
     requires held { name.0 < length names.now }
     ensures own { IfOk result (λ r. IsCond (C.sets conds.new) r.0) }
-    ensures meaning { IfOk result (λ r. Denotes (C.sets conds.new) r.0 (λ c. is_taken (macros_at (C.sets conds.old) names.now table.old c) wanted (text_at names.now name.0))) }
+    ensures meaning { IfOk result (λ r. Denotes (C.sets conds.new) r.0
+        (λ c. is_taken (macros_at (C.sets conds.old) names.now table.old c) wanted (text_at names.now name.0))) }
     ensures memory { IfErr result (λ s. s ≡ stop.OutOfMemory) }
 
     // at every outcome

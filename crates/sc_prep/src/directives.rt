@@ -311,7 +311,8 @@ impl Walk {
         requires line { 0 < length line.now }
         ensures printable { OnOk result ((names : List (List ℕ)) → StaysHeld names line.now self.old self.new) }
         ensures moved { OnOk result ((standard : Standard) → StepsBetweenRuns names.now (C.sets conds.old) self.old (C.sets conds.new) self.new
-            (λ files config m. changing m (seen_line standard names.now files line.now) kind.Define (defined_as m.state.macros (Ok (seen_defined names.now definition))))) }
+            (λ files config m. changing m (seen_line standard names.now files line.now) kind.Define (defined_as m.state.macros (Ok (seen_defined names.now
+            definition))))) }
         ensures memory { IfErr result (λ s. s ≡ stop.OutOfMemory) }
         ensures runs { OnOk result (self.new.runs ≡ self.old.runs) }
         ensures keeps { Keeps (C.sets conds.old) (C.sets conds.new) }
@@ -362,7 +363,8 @@ impl Walk {
         requires line { 0 < length line.now }
         ensures printable { OnOk result ((names : List (List ℕ)) → StaysHeld names line.now self.old self.new) }
         ensures moved { OnOk result ((standard : Standard) → StepsBetweenRuns names.now (C.sets conds.old) self.old (C.sets conds.new) self.new
-            (λ files config m. changing m (seen_line standard names.now files line.now) kind.Undef (undefined m.state.macros (Some (text_at names.now name.0))))) }
+            (λ files config m. changing m (seen_line standard names.now files line.now) kind.Undef (undefined m.state.macros (Some (text_at names.now
+            name.0))))) }
         ensures memory { IfErr result (λ s. s ≡ stop.OutOfMemory) }
         ensures runs { OnOk result (self.new.runs ≡ self.old.runs) }
         ensures keeps { Keeps (C.sets conds.old) (C.sets conds.new) }

@@ -51,7 +51,8 @@ impl Found {
         ensures found { IfOk result (AreFound standard (C.sets conds.old) named.now (text_at files.old including.0)
             (map string_bytes directories.now) names.new files.new contents.new (C.sets conds.new)) }
         ensures contents { OnOk result (AreContents standard names.new files.new (S.holds src.new) contents.new) }
-        ensures paths { OnOk result (ArePlainPaths (map string_bytes directories.now) → All (λ n. has_no_newline (string_bytes n.header.name) ≡ true) named.now → ArePlainPaths files.old → ArePlainPaths files.new) }
+        ensures paths { OnOk result (ArePlainPaths (map string_bytes directories.now)
+            → All (λ n. has_no_newline (string_bytes n.header.name) ≡ true) named.now → ArePlainPaths files.old → ArePlainPaths files.new) }
         ensures read { OnOk result (KeepsContents contents.old contents.new) }
         ensures stops { IfErr result (ReadsNothing (S.faults src.old) (S.faults src.new)) }
 
@@ -86,7 +87,8 @@ impl Found {
         requires parts { All (λ part. IsCond (C.sets conds.old) part.cond.0) self.old.parts.items }
         requires missing { IsCond (C.sets conds.old) self.old.missing.0 }
         ensures adds { OnOk result (AddsFile (C.sets conds.old) cond.0 (option_map (λ pair. pair.0) found) self.old (C.sets conds.new) self.new) }
-        ensures parts { OnOk result ((contents : Contents) → option_map (λ pair. content_at contents pair.0.0) found ≡ option_map (λ pair. Some (Some pair.1.value)) found
+        ensures parts { OnOk result ((contents : Contents) → option_map (λ pair. content_at contents pair.0.0) found ≡ option_map
+            (λ pair. Some (Some pair.1.value)) found
             → ArePartsOf (C.sets conds.old) contents self.old.parts.items → ArePartsOf (C.sets conds.new) contents self.new.parts.items) }
 
         // at every outcome
@@ -172,9 +174,11 @@ fn add_part<C: Conditions>(
 ) -> Result<(), OutOfMemory>
     requires own { IsCond (C.sets conds.old) cond.0 }
     requires parts { All (λ part. IsCond (C.sets conds.old) part.cond.0) parts.old.items }
-    ensures parts { OnOk result ((contents : Contents) → content_at contents file.0 ≡ Some (Some content.value) → ArePartsOf (C.sets conds.old) contents parts.old.items
+    ensures parts { OnOk result ((contents : Contents) → content_at contents file.0 ≡ Some (Some content.value)
+        → ArePartsOf (C.sets conds.old) contents parts.old.items
         → ArePartsOf (C.sets conds.new) contents parts.new.items) }
-    ensures enters { OnOk result ((c : List ℕ) → IsConfig (C.sets conds.old).arities c → (C.sets conds.old).has cond.0 c ≡ true → files_at (C.sets conds.old) parts.old.items c ≡ []
+    ensures enters { OnOk result ((c : List ℕ) → IsConfig (C.sets conds.old).arities c → (C.sets conds.old).has cond.0 c ≡ true
+        → files_at (C.sets conds.old) parts.old.items c ≡ []
         → files_at (C.sets conds.new) parts.new.items c ≡ file ∷ []) }
     ensures others { OnOk result ((c : List ℕ) → IsConfig (C.sets conds.old).arities c → (C.sets conds.old).has cond.0 c ≡ false
         → files_at (C.sets conds.new) parts.new.items c ≡ files_at (C.sets conds.old) parts.old.items c) }

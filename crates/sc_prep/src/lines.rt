@@ -65,7 +65,8 @@ impl Walk {
             → ArePlainPaths files.old → PlainEach (C.sets conds.old) names.old files.old self.old (IsAtTop files.old entry) → ArePlainPaths files.new) }
         ensures read { OnOk result (KeepsContents contents.old contents.new) }
         ensures stops { IfErr result (Stops (C.sets conds.old).arities (seen_space space.now).branches (S.faults src.old) (S.faults src.new)) }
-        ensures footprints { (x : Context) → IsContext (seen_space space.now) x → S.holds src.old ≡ Some x.files → self.old.runs.read ≡ [] → StandApart file.now.tokens.items
+        ensures footprints { (x : Context) → IsContext (seen_space space.now) x → S.holds src.old ≡ Some x.files → self.old.runs.read ≡ []
+            → StandApart file.now.tokens.items
             → IfErr result (StopsWalk (C.sets conds.old) names.old files.old self.old (IsAtTop files.old entry)
             (λ config m. MomentsHave (ComesOver x (seen_lines space.now.standard names.old files.old file.now.tokens.items) m))
             (seen_space space.now).branches) }
@@ -124,7 +125,8 @@ impl Walk {
         ensures read { OnOk result (KeepsContents contents.old contents.new) }
         ensures stops { IfErr result (Stops (C.sets conds.old).arities (seen_space space.now).branches (S.faults src.old) (S.faults src.new)) }
         ensures gathers { OnOk result (GathersFrom tokens.now self.old self.new) }
-        ensures footprints { (x : Context) → IsContext (seen_space space.now) x → S.holds src.old ≡ Some x.files → StandApart (tokens_read self.old.runs.read ++ tokens.now)
+        ensures footprints { (x : Context) → IsContext (seen_space space.now) x → S.holds src.old ≡ Some x.files
+            → StandApart (tokens_read self.old.runs.read ++ tokens.now)
             → IfErr result (StopsWalk (C.sets conds.old) names.old files.old self.old (IsIn files.old entry)
             (λ config m. MomentsHave (ComesAt x m (seen_line space.now.standard names.old files.old tokens.now))) (seen_space space.now).branches) }
 
@@ -190,7 +192,8 @@ impl Walk {
         ensures read { OnOk result (KeepsContents contents.old contents.new) }
         ensures stops { IfErr result (Stops (C.sets conds.old).arities (seen_space space.now).branches (S.faults src.old) (S.faults src.new)) }
         ensures gathers { OnOk result (GathersFrom line.now self.old self.new) }
-        ensures footprints { (x : Context) → IsContext (seen_space space.now) x → S.holds src.old ≡ Some x.files → StandApart (tokens_read self.old.runs.read ++ line.now)
+        ensures footprints { (x : Context) → IsContext (seen_space space.now) x → S.holds src.old ≡ Some x.files
+            → StandApart (tokens_read self.old.runs.read ++ line.now)
             → IfErr result (StopsWalk (C.sets conds.old) names.old files.old self.old (IsIn files.old entry)
             (λ config m. MomentsHave (ComesAt x m (seen_line space.now.standard names.old files.old line.now))) (seen_space space.now).branches) }
 
@@ -261,7 +264,8 @@ impl Walk {
         ensures runs { OnOk result (self.new.runs ≡ self.old.runs) }
         ensures footprints { (x : Context) → IsContext (seen_space space.now) x → S.holds src.old ≡ Some x.files
             → IfErr result (StopsWalk (C.sets conds.old) names.old files.old self.old IsBetweenRuns
-            (λ config m f. ((C.sets conds.old).has cond.0 config ≡ true) × MomentsHave (ComesInside x (text_at files.old entry.file.0) entry.depth m) f) (seen_space space.now).branches) }
+            (λ config m f. ((C.sets conds.old).has cond.0 config ≡ true)
+            × MomentsHave (ComesInside x (text_at files.old entry.file.0) entry.depth m) f) (seen_space space.now).branches) }
 
         // at every outcome
         ensures kept { S.holds src.new ≡ S.holds src.old }

@@ -39,7 +39,8 @@ pub fn preprocess<C: Conditions, S: Source>(
     requires space { (C.sets conds.old).arities ≡ arities_of (seen_space space.now) }
     requires sound { IsSound (seen_space space.now) }
     requires live_own { IsCond (C.sets conds.old) live.0 }
-    ensures ordinary { IfOk result (λ p. IsPreparedFrom (C.sets conds.old) live.0 (C.sets conds.new) names.new files.new p (seen_space space.now) (S.holds src.old) main.now) }
+    ensures ordinary { IfOk result (λ p. IsPreparedFrom (C.sets conds.old) live.0 (C.sets conds.new) names.new files.new p (seen_space space.now) (S.holds
+        src.old) main.now) }
     ensures end_held { IfOk result (λ p. p.end.file.0 < length files.new) }
     ensures live { IfOk result (λ p. (config : List ℕ) → IsConfig (C.sets conds.old).arities config
         → (C.sets conds.new).has p.live.0 config ≡ ((C.sets conds.old).has live.0 config && has_none (C.sets conds.new) p.faults.items config)) }

@@ -66,7 +66,8 @@ impl Headers {
         requires own { IsCond (C.sets conds.old) alternative.now.cond.0 }
         requires held { All (IsHeld names.now) alternative.now.tokens.items }
         ensures adds { OnOk result (AddsHeader (C.sets conds.old) names.now alternative.now self.old (C.sets conds.new) self.new) }
-        ensures plain { OnOk result (All (λ token. is_plain names.now token ≡ true) alternative.now.tokens.items → ArePlainNames self.old.named.items → ArePlainNames self.new.named.items) }
+        ensures plain { OnOk result (All (λ token. is_plain names.now token ≡ true) alternative.now.tokens.items → ArePlainNames self.old.named.items
+            → ArePlainNames self.new.named.items) }
 
         // at every outcome
         ensures keeps { Keeps (C.sets conds.old) (C.sets conds.new) }

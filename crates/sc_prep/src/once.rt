@@ -62,7 +62,8 @@ impl Walk {
         requires own { IsCond (C.sets conds.old) cond.0 }
         requires file { file.0 < length files.now }
         requires once { AreOnceHeld (length files.now) self.now.once.items }
-        ensures entering { IfOk result (λ r. Denotes (C.sets conds.new) r.0 (λ c. ((C.sets conds.old).has cond.0 c && (C.sets conds.old).has self.now.acting.0 c)
+        ensures entering { IfOk result (λ r. Denotes (C.sets conds.new) r.0
+            (λ c. ((C.sets conds.old).has cond.0 c && (C.sets conds.old).has self.now.acting.0 c)
             && not (once_at (C.sets conds.old) files.now self.now.once.items c (text_at files.now file.0)))) }
 
         // at every outcome

@@ -122,8 +122,10 @@ fn taken<C: Conditions>(
 ) -> Result<Cond, OutOfMemory>
     requires left { IsCond (C.sets conds.old) left.0 }
     requires cond { IsCond (C.sets conds.old) cond.0 }
-    ensures takes { IfOk result (λ fewer. (first : Sets) (all front : List (Cond × Option base.Token)) (under : ℕ) → Keeps first (C.sets conds.old) → IsCond first cond.0
-        → TakesOut first all under (C.sets conds.old) left.0 text.old (front ++ (cond, read) ∷ []) → TakesOut first all under (C.sets conds.new) fewer.0 text.new front) }
+    ensures takes { IfOk result (λ fewer. (first : Sets) (all front : List (Cond × Option base.Token)) (under : ℕ) → Keeps first (C.sets conds.old)
+        → IsCond first cond.0
+        → TakesOut first all under (C.sets conds.old) left.0 text.old (front ++ (cond, read) ∷ [])
+        → TakesOut first all under (C.sets conds.new) fewer.0 text.new front) }
 
     // at every outcome
     ensures keeps { Keeps (C.sets conds.old) (C.sets conds.new) }

@@ -87,7 +87,8 @@ impl Pragmas {
         requires owns { OwnsPragmas (C.sets conds.old) self.old }
         requires own { IsCond (C.sets conds.old) cond.0 }
         requires held { IsHeld names.now token }
-        ensures puts { OnOk result (PutsOutside names.now (C.sets conds.old) self.old ((cond, token) ∷ []) cond.0 list.old (C.sets conds.new) self.new list.new) }
+        ensures puts { OnOk result (PutsOutside names.now (C.sets conds.old) self.old ((cond, token) ∷ []) cond.0 list.old (C.sets conds.new) self.new
+            list.new) }
 
         // at every outcome
         ensures keeps { Keeps (C.sets conds.old) (C.sets conds.new) }
@@ -122,7 +123,8 @@ impl Pragmas {
         requires acting { IsCond (C.sets conds.old) acting.0 }
         requires held { All (λ item. IsHeld names.now item.1) items.now }
         requires faults { All (λ fault. IsCond (C.sets conds.old) fault.cond.0) faults.old.items }
-        ensures ends { OnOk result (EndsPragmas names.now (C.sets conds.old) self.old items.now acting.0 list.old faults.old.items (C.sets conds.new) self.new list.new faults.new.items) }
+        ensures ends { OnOk result (EndsPragmas names.now (C.sets conds.old) self.old items.now acting.0 list.old faults.old.items (C.sets conds.new)
+            self.new list.new faults.new.items) }
 
         // at every outcome
         ensures keeps { Keeps (C.sets conds.old) (C.sets conds.new) }
@@ -227,7 +229,8 @@ impl Pragmas {
     ) -> Result<(), OutOfMemory>
         requires owns { OwnsPragmas (C.sets conds.old) self.old }
         requires own { IsCond (C.sets conds.old) cond.0 }
-        ensures leaves { OnOk result (MovesPragmas (C.sets conds.old) self.old (C.sets conds.new) self.new (λ files config a. if (C.sets conds.old).has cond.0 config then no_operator else a)) }
+        ensures leaves { OnOk result (MovesPragmas (C.sets conds.old) self.old (C.sets conds.new) self.new
+            (λ files config a. if (C.sets conds.old).has cond.0 config then no_operator else a)) }
 
         // at every outcome
         ensures keeps { Keeps (C.sets conds.old) (C.sets conds.new) }
@@ -262,8 +265,10 @@ fn part<C: Conditions>(
 ) -> Result<Parted, OutOfMemory>
     requires cond { IsCond (C.sets conds.old) cond.0 }
     requires reading { IsCond (C.sets conds.old) reading.0 }
-    ensures passing { IfOk result (λ r. Denotes (C.sets conds.new) r.passing.0 (λ c. (C.sets conds.old).has cond.0 c && (is_next && (C.sets conds.old).has reading.0 c))) }
-    ensures others { IfOk result (λ r. Denotes (C.sets conds.new) r.others.0 (λ c. (C.sets conds.old).has cond.0 c && not ((C.sets conds.old).has reading.0 c))) }
+    ensures passing { IfOk result (λ r. Denotes (C.sets conds.new) r.passing.0
+        (λ c. (C.sets conds.old).has cond.0 c && (is_next && (C.sets conds.old).has reading.0 c))) }
+    ensures others { IfOk result (λ r. Denotes (C.sets conds.new) r.others.0
+        (λ c. (C.sets conds.old).has cond.0 c && not ((C.sets conds.old).has reading.0 c))) }
 
     // at every outcome
     ensures keeps { Keeps (C.sets conds.old) (C.sets conds.new) }

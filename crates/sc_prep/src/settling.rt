@@ -3,12 +3,11 @@ ghost use Rattle.std.specs.Prelude.{◌≡◌, ℕ, ◌&&◌, ◌++◌, List, Al
 ghost use Rattle.c11_directives.specs.Footprints.{NameHas};
 ghost use Rattle.sc_model.specs.Growth.{Extends};
 ghost use Rattle.sc_model.specs.Sets.{IsCond, Denotes, Keeps};
-ghost use Rattle.sc_base.specs.Seen.{IsHeld};
 ghost use Rattle.sc_prep.specs.Closes.{has_none};
 ghost use Rattle.sc_prep.specs.Pragmas.{OwnsPragmas};
 ghost use Rattle.sc_prep.specs.Machine.{acts};
 ghost use Rattle.sc_prep.specs.Read.{tokens_read};
-ghost use Rattle.sc_prep.specs.Settles.{HasSettled, IsAsked, KeepsSettled};
+ghost use Rattle.sc_prep.specs.Settles.{HasSettled, IsAsked, KeepsSettled, OwnsSettled};
 ghost use Rattle.sc_prep.specs.Stages.{IsStored, LineStage, StopsStage};
 
 use crate::closing::{append, is_met, within};
@@ -173,9 +172,7 @@ impl Walk {
     ) -> Result<(), OutOfMemory>
         requires own { All (λ item. IsCond (C.sets conds.old) item.0.0) self.old.runs.gathered }
         requires pragmas { OwnsPragmas (C.sets conds.old) self.old.runs.pragmas }
-        requires done { All (λ item. IsCond (C.sets conds.old) item.0.0) settled.done }
-        requires held { All (λ item. IsHeld names.now item.1) settled.done }
-        requires faults { All (λ fault. IsCond (C.sets conds.old) fault.cond.0) settled.held.items }
+        requires settled { OwnsSettled (C.sets conds.old) names.now settled }
         requires live { IsCond (C.sets conds.old) live.0 }
         requires asked { IsCond (C.sets conds.old) asked.0 }
         ensures puts { OnOk result (KeepsSettled names.now (C.sets conds.old) self.old live.0 asked.0 settled (C.sets conds.new) self.new) }

@@ -58,7 +58,8 @@ impl Walk {
         end: Place,
     ) -> Result<Walk, OutOfMemory>
         ensures owns { IfOk result (λ walk. Owns (C.sets conds.now) walk) }
-        ensures empty { IfOk result (λ walk. (walk.runs.gathered ≡ []) × (walk.runs.held.items ≡ []) × (HasNoPragma (C.sets conds.now) walk.runs.pragmas) × (walk.runs.read ≡ []) × (walk.once.items ≡ []) × (walk.prepared.list ≡ []) × (walk.prepared.faults.items ≡ [])) }
+        ensures empty { IfOk result (λ walk. (walk.runs.gathered ≡ []) × (walk.runs.held.items ≡ []) × (HasNoPragma (C.sets conds.now) walk.runs.pragmas)
+            × (walk.runs.read ≡ []) × (walk.once.items ≡ []) × (walk.prepared.list ≡ []) × (walk.prepared.faults.items ≡ [])) }
         ensures table { IfOk result (λ walk. walk.table ≡ table) }
         ensures end { IfOk result (λ walk. walk.prepared.end ≡ end) }
         ensures starts { IfOk result (λ walk. (names files : List (List ℕ)) (config : List ℕ) (first : State) → IsConfig (C.sets conds.now).arities config
@@ -160,7 +161,8 @@ impl Walk {
     pub fn end_section<C: Conditions>(&mut self, conds: &mut C) -> Result<(), OutOfMemory>
         requires { Owns (C.sets conds.old) self.old }
         ensures printable { OnOk result ((names : List (List ℕ)) (line : List base.Token) → StaysHeld names line self.old self.new) }
-        ensures moved { OnOk result ((names : List (List ℕ)) → SimulatesStep names (C.sets conds.old) self.old (C.sets conds.new) self.new (λ files config m. ended m m.sections)) }
+        ensures moved { OnOk result ((names : List (List ℕ)) → SimulatesStep names (C.sets conds.old) self.old (C.sets conds.new) self.new
+            (λ files config m. ended m m.sections)) }
         ensures list { OnOk result (self.new.prepared.list ≡ self.old.prepared.list) }
         ensures runs { OnOk result (self.new.runs ≡ self.old.runs) }
         ensures keeps { Keeps (C.sets conds.old) (C.sets conds.new) }

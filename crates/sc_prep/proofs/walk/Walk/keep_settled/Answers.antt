@@ -7,7 +7,7 @@ use Rattle.sc_prep.proofs.Terms.{Denotes, IsCond, has_none}
 use Rattle.sc_prep.proofs.walk.Walk.keep_settled.Goals as goal
 
 pub without_faults-requires-clause-faults : goal.without_faults-requires-clause-faults
-without_faults-requires-clause-faults g c = subst (All (λ (f : Fault). IsCond (g.C.Conditions.sets c.args.conds.now) f.cond.0)) (sym c.deref.ensures.value) c.requires.faults
+without_faults-requires-clause-faults g c = subst (All (λ (f : Fault). IsCond (g.C.Conditions.sets c.args.conds.now) f.cond.0)) (sym c.deref.ensures.value) c.requires.settled.faults
 
 pub within-requires-clause-own : goal.within-requires-clause-own
 within-requires-clause-own g c = λ k d h. (Keeps-trans c.in_ok-free.ensures.keeps c.in_ok-others.ensures.keeps).own _ (c.requires.own k d h)
@@ -18,9 +18,9 @@ put_outside-requires g c =
     let all = Keeps-trans c.in_ok-free.ensures.keeps later in
     record {
       owns = owns-pragmas all c.requires.pragmas;
-      own = λ k d h. all.own _ (c.requires.done k d h);
+      own = λ k d h. all.own _ (c.requires.settled.done k d h);
       by = later.own _ c.in_ok-free.ensures.without.own;
-      held = c.requires.held;
+      held = c.requires.settled.held;
     }
 
 pub returns-clause-puts : goal.returns-clause-puts

@@ -22,9 +22,7 @@ keep_settled-requires g c =
     record {
       own = λ k d h. keeps.own _ (c.requires.stored.owns.runs.gathered k d h);
       pragmas = owns-pragmas keeps c.requires.stored.owns.runs.pragmas;
-      done = c.in-Ok.ensures.held.own;
-      held = c.in-Ok.ensures.held.held;
-      faults = c.in-Ok.ensures.held.faults_own;
+      settled = record { done = c.in-Ok.ensures.held.own; held = c.in-Ok.ensures.held.held; faults = c.in-Ok.ensures.held.faults_own };
       live = keeps.own _ c.requires.asked.live.own;
       asked = keeps.own _ c.requires.asked.own;
     }
