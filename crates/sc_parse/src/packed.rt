@@ -2,12 +2,12 @@ use sc_base::OutOfMemory;
 use sc_fork::Event;
 use std::marker::Model;
 
-/// An event in two numbers, since a parse keeps several for each element.
+/// An event in two small numbers, since a parse keeps several for each element.
 #[derive(Drop)]
 pub struct PackedEvent {
-    number: usize,
+    number: u32,
     /// What is done with the subparser of the number; from 4 on, less 4, the other one of a merge.
-    rest: usize,
+    rest: u32,
 }
 
 impl Model for PackedEvent {
@@ -22,7 +22,7 @@ impl Model for PackedEvent {
 impl PackedEvent {
     ghost use Rattle.std.specs.Prelude.{◌≡◌, IfOk};
 
-    /// There is no room for the highest four numbers, which no subparser in memory can have.
+    /// There is no room for numbers from 2^32 - 4 on: a core with so many takes 32 GB.
     pub fn new(event: Event) -> Result<PackedEvent, OutOfMemory>
         ensures { IfOk result (λ packed. packed ≡ event) }
     {
@@ -36,18 +36,22 @@ impl PackedEvent {
                 None => return Err(OutOfMemory),
             },
         };
-        Ok(PackedEvent { number, rest })
+        match (u32::try_from(number), u32::try_from(rest)) {
+            (Ok(number), Ok(rest)) => Ok(PackedEvent { number, rest }),
+            _ => Err(OutOfMemory),
+        }
     }
 
     pub fn event(&self) -> Event
         ensures { result ≡ self.now }
     {
-        match self.rest {
-            0 => Event::Split(self.number),
-            1 => Event::Reduce(self.number),
-            2 => Event::Shift(self.number),
-            3 => Event::Classify(self.number),
-            rest => Event::Merge(self.number, rest - 4),
+        let number = self.number as usize;
+        match self.rest as usize {
+            0 => Event::Split(number),
+            1 => Event::Reduce(number),
+            2 => Event::Shift(number),
+            3 => Event::Classify(number),
+            rest => Event::Merge(number, rest - 4),
         }
     }
 }
