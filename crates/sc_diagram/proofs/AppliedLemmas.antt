@@ -7,7 +7,7 @@ use Rattle.std.proofs.lemmas.Option.{get_or_from_slice_get}
 use Rattle.sc_model.specs.Sets.{IsConfig}
 use Rattle.sc_model.proofs.SetLemmas.{IsConfig-set}
 use Rattle.sc_diagram.specs.declared.operation.Operation.{Operation}
-use Rattle.sc_diagram.specs.declared.operation.Operation.TheVariants.{And, Or, Negate, Part}
+use Rattle.sc_diagram.specs.declared.operation.Operation.TheVariants.{And, Or, Without, Negate, Part}
 use Rattle.sc_diagram.specs.declared.operation.Application.{Application}
 use Rattle.sc_diagram.specs.Diagram.{Diagram, IsDiagram, branch, branch_of, end_at, variable_of, child_of, sets_of}
 use Rattle.sc_diagram.specs.Grown.{Grows, IsChoice, only, decides}
@@ -90,6 +90,7 @@ module _ {d : Diagram} (valid : IsDiagram d) (what : Application) (is : IsApplic
       → combine op ((sets_of d).has (cofactor d what.left v k)) ((sets_of d).has (cofactor d what.right v k)) c ≡ combine op ((sets_of d).has what.left) ((sets_of d).has what.right) c
   combine_cofactors And operation before v k from c listed chosen = λ i. has_cofactor valid what.left is.left v k c listed chosen i && has_cofactor valid what.right is.right v k c listed chosen i
   combine_cofactors Or operation before v k from c listed chosen = λ i. has_cofactor valid what.left is.left v k c listed chosen i || has_cofactor valid what.right is.right v k c listed chosen i
+  combine_cofactors Without operation before v k from c listed chosen = λ i. has_cofactor valid what.left is.left v k c listed chosen i && not (has_cofactor valid what.right is.right v k c listed chosen i)
   combine_cofactors Negate operation before v k from c listed chosen = ap not (has_cofactor valid what.left is.left v k c listed chosen)
   combine_cofactors (Part w o) operation before v k from c listed chosen =
       let other : v ≢ w = omega (arith, before) in
@@ -139,6 +140,7 @@ module _ {d e : Diagram} (grows : Grows d e) where
       → combine op ((sets_of e).has l) ((sets_of e).has r) c ≡ combine op ((sets_of d).has l) ((sets_of d).has r) c
   combine-Grows And l r c operation own_l own_r listed = λ i. has-Grows grows l c own_l listed i && has-Grows grows r c own_r listed i
   combine-Grows Or l r c operation own_l own_r listed = λ i. has-Grows grows l c own_l listed i || has-Grows grows r c own_r listed i
+  combine-Grows Without l r c operation own_l own_r listed = λ i. has-Grows grows l c own_l listed i && not (has-Grows grows r c own_r listed i)
   combine-Grows Negate l r c operation own_l own_r listed = ap not (has-Grows grows l c own_l listed)
   combine-Grows (Part w o) l r c operation own_l own_r listed = has-Grows grows l (slice_set c w o) own_l (IsConfig-set w o listed operation.within operation.in_range)
 
@@ -177,6 +179,7 @@ module _ {d e : Diagram} (grows : Grows d e) where
   pub IsBefore-Grows : (op : Operation) (n : ℕ) → n < length d.nodes → IsBefore d op n → IsBefore e op n
   IsBefore-Grows And n own before = before
   IsBefore-Grows Or n own before = before
+  IsBefore-Grows Without n own before = before
   IsBefore-Grows Negate n own before = before
   IsBefore-Grows (Part w o) n own before = omega (arith, before, variable_of-Grows grows n own)
 

@@ -1,15 +1,15 @@
 -- Operations whose result is told by the nodes at hand.
-use Rattle.std.proofs.Common.{◌≡◌, ◌≢◌, ℕ, zero, suc, ◌-◌, ◌<◌, ◌≤◌, ◌==◌, ◌&&◌, ◌||◌, not, Bool, true, false, List, inl, inr, refl, sym, ◌∙◌, ap, arith}
-use Rattle.std.specs.Prelude.{slice_set}
+use Rattle.std.proofs.Common.{◌≡◌, ◌≢◌, ℕ, zero, suc, ◌-◌, ◌<◌, ◌≤◌, ◌==◌, ◌&&◌, ◌||◌, not, Bool, true, false, List, length, inl, inr, refl, sym, ◌∙◌, ap, arith}
+use Rattle.std.specs.Prelude.{IfNone, None, Option, Some, slice_set}
 use Rattle.std.proofs.lemmas.Bool.{cases_Bool, eqb-true, eq-eqb, true≢false}
 use Rattle.std.proofs.lemmas.Option.{slice_get_within}
 use Rattle.sc_model.specs.Sets.{IsConfig}
 use Rattle.sc_diagram.specs.declared.operation.Operation.{Operation}
-use Rattle.sc_diagram.specs.declared.operation.Operation.TheVariants.{And, Or, Negate, Part}
+use Rattle.sc_diagram.specs.declared.operation.Operation.TheVariants.{And, Or, Without, Negate, Part}
 use Rattle.sc_diagram.specs.Diagram.{Diagram, IsDiagram, variable_of, sets_of}
-use Rattle.sc_diagram.specs.Applied.{combine, IsApplication, Applies, IsShort, left_absorbs, right_neutral, same, right_absorbs, left_neutral, application, cofactor}
-use Rattle.sc_diagram.proofs.DiagramLemmas.{has_end, has_free, has_child, variable_end}
-use Rattle.sc_diagram.proofs.AppliedLemmas.{own_cofactor, from_cofactor, cofactor_child, cofactor_itself, wide}
+use Rattle.sc_diagram.specs.Applied.{combine, IsApplication, Applies, IsBefore, IsRest, IsShort, IsUndecided, left_absorbs, right_neutral, same, right_absorbs, left_neutral, nothing, whole, application, cofactor}
+use Rattle.sc_diagram.proofs.DiagramLemmas.{has_end, has_free, has_child, variable-le, variable_end}
+use Rattle.sc_diagram.proofs.AppliedLemmas.{first-le, own_cofactor, from_cofactor, cofactor_child, cofactor_itself, wide}
 
 and_itself : (x y : Bool) → x ≡ y → x ≡ (x && y)
 and_itself true y e = e
@@ -34,6 +34,14 @@ or_true false = refl
 or_false : (x : Bool) → x ≡ (x || false)
 or_false true = refl
 or_false false = refl
+
+and_not_itself : (x y : Bool) → x ≡ y → false ≡ (x && not y)
+and_not_itself true y e = ap not e
+and_not_itself false y e = refl
+
+pub IfNone_then : {X P Q : Type 0} (r : Option X) → IfNone r P → (P → Q) → IfNone r Q
+IfNone_then None p f = f p
+IfNone_then (Some x) p f = tt
 
 module _ {d : Diagram} (valid : IsDiagram d) (l r : ℕ) where
   -- the left node, or the right one, has the configurations that the operation makes
@@ -62,6 +70,39 @@ module _ {d : Diagram} (valid : IsDiagram d) (l r : ℕ) where
   Applies-Or n is (same at) = Applies-left Or is (λ c listed. or_itself _ _ (ap (λ m. (sets_of d).has m c) at))
   Applies-Or n is (right_absorbs at) = Applies-right Or is (λ c listed. has_always r c listed at ∙ or_true ((sets_of d).has l c) ∙ ap (λ x. (sets_of d).has l c || x) (sym (has_always r c listed at)))
   Applies-Or n is (left_neutral at) = Applies-right Or is (λ c listed. ap (λ x. x || (sets_of d).has r c) (sym (has_never l c listed at)))
+
+  -- the left node whole, or nothing of it
+  pub Applies-Without : (n : ℕ) → IsApplication d (application Without l r) → IsRest l r n → Applies d (application Without l r) n
+  Applies-Without n is (whole at) = Applies-left Without is (λ c listed. and_true ((sets_of d).has l c) ∙ ap (λ x. (sets_of d).has l c && not x) (sym (has_never r c listed at)))
+  Applies-Without n is (nothing cases) = record {
+    application = is;
+    own = slice_get_within d.nodes 0 _ valid.never;
+    from = λ u left right. omega (arith, left, variable_end valid 0 (omega arith), variable-le valid l is.left);
+    at = λ c listed. has_end valid c listed 0 (omega arith) ∙ elim cases [
+      | inl none ↦ ap (λ x. x && not ((sets_of d).has r c)) (sym (has_never l c listed none))
+      | inr others ↦ elim others [
+        | inl all ↦ and_false ((sets_of d).has l c) ∙ ap (λ x. (sets_of d).has l c && not x) (sym (has_always r c listed all))
+        | inr both ↦ and_not_itself _ _ (ap (λ m. (sets_of d).has m c) both)
+      ]
+    ];
+  }
+
+  -- ---- what can't be told from the first variables alone
+
+  pub undecided-before : (op : Operation) → l < length d.nodes → variable_of d l < length d.arities → IsBefore d op l → IsUndecided d (application op l r)
+  undecided-before op own within before = record {
+    inner = omega (arith, (first-le (variable_of d l) (variable_of d r)).left, within);
+    before = before;
+  }
+
+  pub undecided-left : (op : Operation) → l < length d.nodes → 2 ≤ l → IsBefore d op l → IsUndecided d (application op l r)
+  undecided-left op own inner before = undecided-before op own (valid.decisions l inner own).within before
+
+  pub undecided-right : (op : Operation) → r < length d.nodes → 2 ≤ r → IsBefore d op l → IsUndecided d (application op l r)
+  undecided-right op own inner before = record {
+    inner = omega (arith, (first-le (variable_of d l) (variable_of d r)).right, (valid.decisions r inner own).within);
+    before = before;
+  }
 
   -- the other end
   pub Applies-Negate : (n : ℕ) → IsApplication d (application Negate l r) → l < 2 → n ≡ 1 - l → Applies d (application Negate l r) n

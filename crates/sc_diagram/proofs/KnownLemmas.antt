@@ -3,7 +3,7 @@ use Rattle.std.proofs.Common.{◌≡◌, zero, suc, ◌==◌, ◌&&◌, Bool, tr
 use Rattle.std.proofs.lemmas.Bool.{cases_Bool, false≢true, eqb-true}
 use Rattle.indexmap.specs.IndexMap.{insert_entry}
 use Rattle.sc_diagram.specs.declared.operation.Operation.{Operation}
-use Rattle.sc_diagram.specs.declared.operation.Operation.TheVariants.{And, Or, Negate, Part}
+use Rattle.sc_diagram.specs.declared.operation.Operation.TheVariants.{And, Or, Without, Negate, Part}
 use Rattle.sc_diagram.specs.declared.operation.Application.{Application}
 use Rattle.sc_diagram.specs.contracts.operation.OperationPartialEq.TheImpl as operation
 use Rattle.sc_diagram.specs.contracts.operation.ApplicationPartialEq.TheImpl as application
@@ -17,18 +17,27 @@ both false y told = absurd (false≢true told)
 same_operation : (a b : Operation) → operation.eq-value.it a b ≡ true → a ≡ b
 same_operation And And told = refl
 same_operation And Or told = absurd (false≢true told)
+same_operation And Without told = absurd (false≢true told)
 same_operation And Negate told = absurd (false≢true told)
 same_operation And (Part x y) told = absurd (false≢true told)
 same_operation Or And told = absurd (false≢true told)
 same_operation Or Or told = refl
+same_operation Or Without told = absurd (false≢true told)
 same_operation Or Negate told = absurd (false≢true told)
 same_operation Or (Part x y) told = absurd (false≢true told)
+same_operation Without And told = absurd (false≢true told)
+same_operation Without Or told = absurd (false≢true told)
+same_operation Without Without told = refl
+same_operation Without Negate told = absurd (false≢true told)
+same_operation Without (Part x y) told = absurd (false≢true told)
 same_operation Negate And told = absurd (false≢true told)
 same_operation Negate Or told = absurd (false≢true told)
+same_operation Negate Without told = absurd (false≢true told)
 same_operation Negate Negate told = refl
 same_operation Negate (Part x y) told = absurd (false≢true told)
 same_operation (Part x y) And told = absurd (false≢true told)
 same_operation (Part x y) Or told = absurd (false≢true told)
+same_operation (Part x y) Without told = absurd (false≢true told)
 same_operation (Part x y) Negate told = absurd (false≢true told)
 same_operation (Part x y) (Part v w) told =
     let is = both (x == v) (y == w) told in

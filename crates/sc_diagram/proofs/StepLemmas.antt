@@ -35,7 +35,7 @@ module _ {d e : Diagram} {what : Application} {v : ℕ} (is : IsApplication d wh
   from = omega (arith, first, (first-le (variable_of d what.left) (variable_of d what.right)).left)
 
   within : v < length e.arities
-  within = omega (arith, from, open_.inner, ap length grows.arities)
+  within = omega (arith, first, open_.inner, ap length grows.arities)
 
   first_now : v ≡ first_of e what
   first_now = first ∙ sym (first_of-Grows grows what is)

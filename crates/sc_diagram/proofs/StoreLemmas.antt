@@ -8,7 +8,7 @@ use Rattle.std.proofs.lemmas.Option.{slice_get_within, get_or_from_slice_get}
 use Rattle.sc_model.specs.Sets.{IsConfig, Denotes, IsNever, IsAlways, IsTop, DependsFrom}
 use Rattle.sc_model.proofs.SetLemmas.{IsConfig-set, IsConfig-kept, Denotes-Keeps, IsNever-DependsOn, IsAlways-DependsOn, le-IsTop}
 use Rattle.sc_diagram.specs.declared.operation.Operation.{Operation}
-use Rattle.sc_diagram.specs.declared.operation.Operation.TheVariants.{And, Or, Negate, Part}
+use Rattle.sc_diagram.specs.declared.operation.Operation.TheVariants.{And, Or, Without, Negate, Part}
 use Rattle.sc_diagram.specs.declared.operation.Application.{Application}
 use Rattle.sc_diagram.specs.Decision.{IsDecisionOf, numbers_of}
 use Rattle.sc_diagram.specs.declared.node.Node.{Node}
@@ -24,6 +24,7 @@ combine_told : {ns : List ℕ} (op : Operation) (f g p q : List ℕ → Bool) �
     → (c : List ℕ) → IsConfig ns c → combine op f g c ≡ combine op p q c
 combine_told And f g p q operation at_f at_g c listed = λ i. at_f c listed i && at_g c listed i
 combine_told Or f g p q operation at_f at_g c listed = λ i. at_f c listed i || at_g c listed i
+combine_told Without f g p q operation at_f at_g c listed = λ i. at_f c listed i && not (at_g c listed i)
 combine_told Negate f g p q operation at_f at_g c listed = ap not (at_f c listed)
 combine_told (Part v k) f g p q operation at_f at_g c listed = at_f (slice_set c v k) (IsConfig-set v k listed operation.within operation.in_range)
 

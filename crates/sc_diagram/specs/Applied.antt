@@ -3,13 +3,14 @@ use Rattle.std.specs.Prelude.{◌≡◌, ℕ, ◌<◌, ◌≤◌, ◌==◌, ◌&
 use Rattle.sc_model.specs.Sets.{IsConfig}
 use Rattle.sc_diagram.specs.Diagram.{Diagram, sets_of, variable_of, child_of}
 use Rattle.sc_diagram.specs.declared.operation.Operation.{Operation}
-use Rattle.sc_diagram.specs.declared.operation.Operation.TheVariants.{And, Or, Negate, Part}
+use Rattle.sc_diagram.specs.declared.operation.Operation.TheVariants.{And, Or, Without, Negate, Part}
 use Rattle.sc_diagram.specs.declared.operation.Application.{Application}
 
 -- the set that an operation makes of two
 abbrev pub combine : Operation → (List ℕ → Bool) → (List ℕ → Bool) → List ℕ → Bool
 combine And f g c = f c && g c
 combine Or f g c = f c || g c
+combine Without f g c = f c && not (g c)
 combine Negate f g c = not (f c)
 combine (Part variable option) f g c = f (slice_set c variable option)
 
@@ -22,6 +23,7 @@ pub record IsOption (arities : List ℕ) (variable option : ℕ) : Type 0 where
 abbrev pub IsOperation : List ℕ → Operation → Type 0
 IsOperation arities And = Unit {0}
 IsOperation arities Or = Unit {0}
+IsOperation arities Without = Unit {0}
 IsOperation arities Negate = Unit {0}
 IsOperation arities (Part variable option) = IsOption arities variable option
 
@@ -69,17 +71,18 @@ pub record Adds (old new : List (Application × ℕ)) (what : Application) (r : 
 abbrev pub IsBefore : Diagram → Operation → ℕ → Type 0
 IsBefore d And n = Unit {0}
 IsBefore d Or n = Unit {0}
+IsBefore d Without n = Unit {0}
 IsBefore d Negate n = Unit {0}
 IsBefore d (Part variable option) n = variable_of d n < variable
-
--- the result can't be told from the first variables alone
-pub record IsUndecided (d : Diagram) (what : Application) : Type 0 where
-  pub inner : variable_of d what.left < length d.arities
-  pub before : IsBefore d what.operation what.left
 
 -- the first variable by which the nodes decide
 abbrev pub first_of : Diagram → Application → ℕ
 first_of d what = min (variable_of d what.left) (variable_of d what.right)
+
+-- the result can't be told from the first variables alone
+pub record IsUndecided (d : Diagram) (what : Application) : Type 0 where
+  pub inner : first_of d what < length d.arities
+  pub before : IsBefore d what.operation what.left
 
 -- one of two nodes, since one of them is absorbing or neutral, or since they are the same
 pub data IsShort (left right absorbing neutral : ℕ) : ℕ → Type 0 where
@@ -88,3 +91,8 @@ pub data IsShort (left right absorbing neutral : ℕ) : ℕ → Type 0 where
   same : left ≡ right → IsShort left right absorbing neutral left
   right_absorbs : right ≡ absorbing → IsShort left right absorbing neutral right
   left_neutral : left ≡ neutral → IsShort left right absorbing neutral right
+
+-- what the left node has and the right one has not, where one of them is an end or they are the same
+pub data IsRest (left right : ℕ) : ℕ → Type 0 where
+  nothing : (left ≡ 0) ⊎ ((right ≡ 1) ⊎ (left ≡ right)) → IsRest left right 0
+  whole : right ≡ 0 → IsRest left right left

@@ -1,7 +1,7 @@
 //! Operations whose result is told by the nodes at hand.
 ghost use Rattle.std.specs.Prelude.{◌≡◌, ◌<◌, ◌≤◌, ◌-◌, IfSome, IfNone, length};
 ghost use Rattle.sc_diagram.specs.Diagram.{IsDiagram, variable_of};
-ghost use Rattle.sc_diagram.specs.Applied.{IsOption, IsApplication, IsUndecided, IsShort, Applies, cofactor};
+ghost use Rattle.sc_diagram.specs.Applied.{IsOption, IsApplication, IsUndecided, IsRest, IsShort, Applies, cofactor};
 
 use crate::operation::{Application, Operation};
 use crate::table::{ALWAYS, NEVER, Table};
@@ -22,6 +22,7 @@ pub fn decided(table: &Table, what: Application) -> Option<usize>
     match operation {
         Operation::And => short(left, right, NEVER, ALWAYS),
         Operation::Or => short(left, right, ALWAYS, NEVER),
+        Operation::Without => decided_without(left, right),
         Operation::Negate => decided_negate(left),
         Operation::Part(variable, option) => decided_part(table, left, variable, option),
     }
@@ -38,6 +39,20 @@ fn short(left: usize, right: usize, absorbing: usize, neutral: usize) -> Option<
         Some(left)
     } else if right == absorbing || left == neutral {
         Some(right)
+    } else {
+        None
+    }
+}
+
+#[tactic(auto, using(crate::specs::Applied::nothing, crate::specs::Applied::whole))]
+fn decided_without(left: usize, right: usize) -> Option<usize>
+    ensures some { IfSome result (λ r. IsRest left right r) }
+    ensures none { IfNone result (2 ≤ right) }
+{
+    if left == NEVER || right == ALWAYS || left == right {
+        Some(NEVER)
+    } else if right == NEVER {
+        Some(left)
     } else {
         None
     }

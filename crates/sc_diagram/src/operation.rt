@@ -3,6 +3,8 @@
 pub enum Operation {
     And,
     Or,
+    /// The configurations of the left node that the right one has not.
+    Without,
     Negate,
     /// What remains where the variable has the option.
     Part(usize, usize),

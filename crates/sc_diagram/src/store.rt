@@ -157,6 +157,22 @@ impl Store {
         self.make(Operation::Or, a, b)
     }
 
+    /// The configurations that the first node has and the second one has not.
+    pub fn apply_without(&mut self, a: Node, b: Node) -> Result<Node, OutOfMemory>
+        requires a_own { IsCond (sets_of self.old) a.0 }
+        requires b_own { IsCond (sets_of self.old) b.0 }
+        ensures own { IfOk result (λ r. IsCond (sets_of self.new) r.0) }
+        ensures meaning { IfOk result (λ r. (f g : List ℕ → Bool) → Denotes (sets_of self.old) a.0 f
+            → Denotes (sets_of self.old) b.0 g → Denotes (sets_of self.new) r.0 (λ c. f c && not (g c))) }
+        ensures adds { IfOk result (λ r. AddsOnly self.old self.new r.0) }
+
+        // at every outcome
+        ensures grows { Grows self.old self.new }
+        ensures keeps { Keeps (sets_of self.old) (sets_of self.new) }
+    {
+        self.make(Operation::Without, a, b)
+    }
+
     /// The configurations that the node has not.
     pub fn negate(&mut self, a: Node) -> Result<Node, OutOfMemory>
         requires { IsCond (sets_of self.old) a.0 }

@@ -58,11 +58,7 @@ pub items_at-no_part : {old new : Sets} (parts : List (Cond × ℕ)) (n : ℕ) (
 items_at-no_part {old} {new} parts n b c keeps own listed test =
     items_at-Keeps parts c keeps own listed ∙ (sym (append-nil (items_at old parts c)) ∙ ap (λ t. items_at old parts c ++ (if t then n ∷ [] else [])) (sym test))
 
--- a condition without its part, which is what it has in common with another, is without that other
-pub and-not_and : (a b : Bool) → (a && not (a && b)) ≡ (a && not b)
-and-not_and true b = refl
-and-not_and false b = refl
-
+-- a condition that has nothing in common with another is itself without that other
 pub and-not_none : (a b : Bool) → (a && b) ≡ false → a ≡ (a && not b)
 and-not_none true true none = none
 and-not_none true false none = refl

@@ -73,7 +73,6 @@ fn take_part<C: Conditions>(
         return Ok(left);
     }
     parts.push((part, index))?;
-    let others = conds.negate(part)?;
-    let rest = conds.apply_and(left, others)?;
+    let rest = conds.apply_without(left, item)?;
     Ok(rest)
 }

@@ -54,6 +54,17 @@ pub trait Conditions {
         // at every outcome
         ensures keeps { Keeps (sets self.old) (sets self.new) };
 
+    /// The configurations that the first condition has and the second one has not.
+    fn apply_without(&mut self, a: Cond, b: Cond) -> Result<Cond, OutOfMemory>
+        requires a_own { IsCond (sets self.old) a.0 }
+        requires b_own { IsCond (sets self.old) b.0 }
+        ensures own { IfOk result (λ r. IsCond (sets self.new) r.0) }
+        ensures meaning { IfOk result (λ r. (f g : List ℕ → Bool) → Denotes (sets self.old) a.0 f
+            → Denotes (sets self.old) b.0 g → Denotes (sets self.new) r.0 (λ c. f c && not (g c))) }
+
+        // at every outcome
+        ensures keeps { Keeps (sets self.old) (sets self.new) };
+
     /// The configurations that the condition has not.
     fn negate(&mut self, a: Cond) -> Result<Cond, OutOfMemory>
         requires { IsCond (sets self.old) a.0 }

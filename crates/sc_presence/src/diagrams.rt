@@ -51,6 +51,11 @@ impl Conditions for Diagrams {
         Ok(Cond(node.0))
     }
 
+    fn apply_without(&mut self, a: Cond, b: Cond) -> Result<Cond, OutOfMemory> {
+        let node = self.store.apply_without(Node(a.0), Node(b.0))?;
+        Ok(Cond(node.0))
+    }
+
     fn negate(&mut self, a: Cond) -> Result<Cond, OutOfMemory> {
         let node = self.store.negate(Node(a.0))?;
         Ok(Cond(node.0))

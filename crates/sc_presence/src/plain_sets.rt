@@ -139,6 +139,11 @@ impl Conditions for PlainSets {
         self.intern(row)
     }
 
+    fn apply_without(&mut self, a: Cond, b: Cond) -> Result<Cond, OutOfMemory> {
+        let row = rows::difference(self.alloc, self.row(a), self.row(b))?;
+        self.intern(row)
+    }
+
     fn negate(&mut self, a: Cond) -> Result<Cond, OutOfMemory> {
         let row = rows::complement(self.alloc, self.row(a))?;
         self.intern(row)

@@ -30,6 +30,13 @@ pub fn join(alloc: Global, a: &[bool], b: &[bool]) -> Result<Vec<bool>, AllocErr
     a.iter().zip(b).map(|(x, y)| *x || *y).collect(alloc)
 }
 
+/// The configurations that are in the first row and not in the second.
+pub fn difference(alloc: Global, a: &[bool], b: &[bool]) -> Result<Vec<bool>, AllocError>
+    ensures { IfOk result (λ row. row.items ≡ map (λ p. p.0 && not p.1) (zip a.now b.now)) }
+{
+    a.iter().zip(b).map(|(x, y)| *x && !*y).collect(alloc)
+}
+
 /// The configurations that are not in the row.
 pub fn complement(alloc: Global, row: &[bool]) -> Result<Vec<bool>, AllocError>
     ensures { IfOk result (λ others. others.items ≡ map not row.now) }

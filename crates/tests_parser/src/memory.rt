@@ -51,6 +51,13 @@ impl<C: Conditions> Conditions for Limited<C> {
         self.conds.apply_or(a, b)
     }
 
+    fn apply_without(&mut self, a: Cond, b: Cond) -> Result<Cond, OutOfMemory> {
+        if !self.has_memory {
+            return Err(OutOfMemory);
+        }
+        self.conds.apply_without(a, b)
+    }
+
     fn negate(&mut self, a: Cond) -> Result<Cond, OutOfMemory> {
         if !self.has_memory {
             return Err(OutOfMemory);
