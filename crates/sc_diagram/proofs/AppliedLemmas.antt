@@ -1,5 +1,5 @@
 -- What operations make: from what they make of the children, and as the diagram grows.
-use Rattle.std.proofs.Common.{◌≡◌, ◌≢◌, ℕ, ◌<◌, ◌≤◌, ◌==◌, ◌&&◌, ◌||◌, not, min, false, List, length, Contains, ◌⊎◌, inl, inr, refl, sym, ◌∙◌, ap, subst, arith, if◌then◌else◌}
+use Rattle.std.proofs.Common.{◌≡◌, ◌≢◌, ℕ, ◌<◌, ◌≤◌, ◌==◌, ◌&&◌, ◌||◌, not, min, false, List, [], length, Contains, ◌⊎◌, inl, inr, refl, sym, ◌∙◌, ap, subst, arith, if◌then◌else◌}
 use Rattle.std.specs.Prelude.{slice_index, slice_set}
 use Rattle.std.proofs.lemmas.Bool.{cases_Bool, cases_lt, eqb-true, eq-eqb, true≢false}
 use Rattle.std.proofs.lemmas.List.{get_or-set_other}
@@ -12,7 +12,7 @@ use Rattle.sc_diagram.specs.declared.operation.Application.{Application}
 use Rattle.sc_diagram.specs.Diagram.{Diagram, IsDiagram, branch, branch_of, end_at, variable_of, child_of, sets_of}
 use Rattle.sc_diagram.specs.Grown.{Grows, IsChoice, only, decides}
 use Rattle.sc_diagram.specs.Applied.{combine, IsOperation, IsApplication, Applies, AppliesEach, cofactor, application_at, first_of, IsBefore, IsKnown, Adds}
-use Rattle.sc_diagram.proofs.DiagramLemmas.{decision, has_next, own_part, later_child}
+use Rattle.sc_diagram.proofs.DiagramLemmas.{decision, has_child, has_free, has_next, own_part, later_child}
 use Rattle.sc_diagram.proofs.GrownLemmas.{branch_of-Grows, variable_of-Grows, own-Grows, has-Grows}
 
 -- the first of two variables
@@ -76,6 +76,33 @@ module _ {d : Diagram} (valid : IsDiagram d) (n : ℕ) (own : n < length d.nodes
           )
       | inr other ↦ omega (arith, ap (variable_of d) (cofactor_itself other))
     ]
+
+    -- it has what the node has where the variable is set to the option
+    pub has_cofactor-set : v ≤ variable_of d n → (c : List ℕ) → IsConfig d.arities c → (sets_of d).has (cofactor d n v k) c ≡ (sets_of d).has n (slice_set c v k)
+    has_cofactor-set from c listed = elim (cases_Bool (variable_of d n == v)) [
+      | inl told ↦ (
+          let here = eqb-true (variable_of d n) v told in
+          ap (λ m. (sets_of d).has m c) (cofactor_child here) ∙ sym (has_child valid n own (omega arith) k (wide here) c listed) ∙ ap (λ u. (sets_of d).has n (slice_set c u k)) here
+          )
+      | inr other ↦ (
+          let apart : v ≢ variable_of d n = λ e. true≢false (sym (eq-eqb (variable_of d n) v (sym e)) ∙ other) in
+          ap (λ m. (sets_of d).has m c) (cofactor_itself other) ∙ sym (has_free valid c listed v k n own (omega (arith, apart)))
+          )
+    ]
+
+    -- what has nothing with any option is never
+    pub never-cofactors : ((j : ℕ) → j < slice_index d.arities v → cofactor d n v j ≡ 0) → n ≡ 0
+    never-cofactors none = elim (cases_Bool (variable_of d n == v)) [
+      | inl told ↦ (
+          let here = eqb-true (variable_of d n) v told in
+          let is = decision valid n own (omega arith) in
+          absurd (is.reduced (λ j in_range. child here j (omega (arith, in_range, is.wide, ap (slice_index d.arities) here)) ∙ sym (child here 0 (omega (arith, in_range, is.wide, ap (slice_index d.arities) here)))))
+          )
+      | inr other ↦ sym (ap (λ b. if b then child_of d n k else n) other) ∙ none k in_range
+    ]
+      where
+        child : variable_of d n ≡ v → (j : ℕ) → j < slice_index d.arities v → child_of d n j ≡ 0
+        child here j below = sym (ap (λ b. if b then child_of d n j else n) (eq-eqb (variable_of d n) v here)) ∙ none j below
 
 module _ {d : Diagram} (valid : IsDiagram d) (what : Application) (is : IsApplication d what) where
   -- the operation on what remains is one
@@ -182,6 +209,11 @@ module _ {d e : Diagram} (grows : Grows d e) where
   IsBefore-Grows Without n own before = before
   IsBefore-Grows Negate n own before = before
   IsBefore-Grows (Part w o) n own before = omega (arith, before, variable_of-Grows grows n own)
+
+-- where all is forgotten, nothing false is known
+pub IsKnown-bound : {d : Diagram} {old new : List (Application × ℕ)} → (new ≡ old) ⊎ (new ≡ []) → IsKnown d old → IsKnown d new
+IsKnown-bound {d} (inl same) known = subst (IsKnown d) (sym same) known
+IsKnown-bound {d} (inr none) known = subst (IsKnown d) (sym none) (record { each = λ e has. absurd (omega (arith, has.1)) })
 
 -- one more pair that is known
 pub IsKnown-Adds : {d : Diagram} {old new : List (Application × ℕ)} {what : Application} {r : ℕ} → Adds old new what r → IsKnown d old → Applies d what r → IsKnown d new

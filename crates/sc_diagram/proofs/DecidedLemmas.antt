@@ -1,15 +1,14 @@
 -- Operations whose result is told by the nodes at hand.
-use Rattle.std.proofs.Common.{◌≡◌, ◌≢◌, ℕ, zero, suc, ◌-◌, ◌<◌, ◌≤◌, ◌==◌, ◌&&◌, ◌||◌, not, Bool, true, false, List, length, inl, inr, refl, sym, ◌∙◌, ap, arith}
-use Rattle.std.specs.Prelude.{IfNone, None, Option, Some, slice_set}
-use Rattle.std.proofs.lemmas.Bool.{cases_Bool, eqb-true, eq-eqb, true≢false}
+use Rattle.std.proofs.Common.{◌≡◌, ℕ, zero, suc, ◌-◌, ◌<◌, ◌≤◌, ◌==◌, ◌&&◌, ◌||◌, not, Bool, true, false, List, length, inl, inr, refl, sym, ◌∙◌, ap, arith}
+use Rattle.std.specs.Prelude.{IfNone, None, Option, Some}
 use Rattle.std.proofs.lemmas.Option.{slice_get_within}
 use Rattle.sc_model.specs.Sets.{IsConfig}
 use Rattle.sc_diagram.specs.declared.operation.Operation.{Operation}
 use Rattle.sc_diagram.specs.declared.operation.Operation.TheVariants.{And, Or, Without, Negate, Part}
 use Rattle.sc_diagram.specs.Diagram.{Diagram, IsDiagram, variable_of, sets_of}
 use Rattle.sc_diagram.specs.Applied.{combine, IsApplication, Applies, IsBefore, IsRest, IsShort, IsUndecided, left_absorbs, right_neutral, same, right_absorbs, left_neutral, nothing, whole, application, cofactor}
-use Rattle.sc_diagram.proofs.DiagramLemmas.{has_end, has_free, has_child, variable-le, variable_end}
-use Rattle.sc_diagram.proofs.AppliedLemmas.{first-le, own_cofactor, from_cofactor, cofactor_child, cofactor_itself, wide}
+use Rattle.sc_diagram.proofs.DiagramLemmas.{has_end, variable-le, variable_end}
+use Rattle.sc_diagram.proofs.AppliedLemmas.{first-le, own_cofactor, from_cofactor, has_cofactor-set}
 
 and_itself : (x y : Bool) → x ≡ y → x ≡ (x && y)
 and_itself true y e = e
@@ -129,16 +128,5 @@ module _ {d : Diagram} (valid : IsDiagram d) (l r : ℕ) where
         application = is;
         own = omega (arith, at, own_cofactor valid l is.left v k within in_range);
         from = λ u left right. omega (arith, ap (variable_of d) at, from_cofactor valid l is.left v k within in_range u left);
-        at = λ c listed. ap (λ m. (sets_of d).has m c) at ∙ elim (cases_Bool (variable_of d l == v)) [
-          | inl told ↦ (
-              let here = eqb-true (variable_of d l) v told in
-              ap (λ m. (sets_of d).has m c) (cofactor_child valid l is.left v k here)
-              ∙ sym (has_child valid l is.left (omega arith) k (wide valid l is.left v k within in_range here) c listed)
-              ∙ ap (λ u. (sets_of d).has l (slice_set c u k)) here
-              )
-          | inr other ↦ (
-              let apart : v ≢ variable_of d l = λ e. true≢false (sym (eq-eqb (variable_of d l) v (sym e)) ∙ other) in
-              ap (λ m. (sets_of d).has m c) (cofactor_itself valid l is.left v k other) ∙ sym (has_free valid c listed v k l is.left (omega (arith, apart)))
-              )
-        ];
+        at = λ c listed. ap (λ m. (sets_of d).has m c) at ∙ has_cofactor-set valid l is.left v k within in_range from c listed;
       }

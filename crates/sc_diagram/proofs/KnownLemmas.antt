@@ -8,7 +8,7 @@ use Rattle.sc_diagram.specs.declared.operation.Application.{Application}
 use Rattle.sc_diagram.specs.contracts.operation.OperationPartialEq.TheImpl as operation
 use Rattle.sc_diagram.specs.contracts.operation.ApplicationPartialEq.TheImpl as application
 
-both : (x y : Bool) → (x && y) ≡ true → (x ≡ true) × (y ≡ true)
+pub both : (x y : Bool) → (x && y) ≡ true → (x ≡ true) × (y ≡ true)
 both true true told = (refl, refl)
 both true false told = absurd (false≢true told)
 both false y told = absurd (false≢true told)

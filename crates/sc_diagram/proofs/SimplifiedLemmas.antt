@@ -1,18 +1,19 @@
 -- Simpler nodes: one step, and as the diagram grows.
-use Rattle.std.proofs.Common.{◌≡◌, ℕ, suc, ◌+◌, ◌-◌, ◌<◌, ◌≤◌, ◌==◌, ◌||◌, Bool, true, false, List, [], ◌∷◌, ◌++◌, length, min, Contains, ◌⊎◌, inl, inr, refl, sym, ◌∙◌, ap, subst, arith}
-use Rattle.std.specs.Prelude.{slice_index}
-use Rattle.std.proofs.lemmas.Bool.{cases_lt, false≢true}
+use Rattle.std.proofs.Common.{◌≡◌, ℕ, suc, ◌+◌, ◌-◌, ◌<◌, ◌≤◌, ◌||◌, Bool, true, false, List, [], ◌∷◌, ◌++◌, length, Contains, ◌⊎◌, inl, inr, refl, sym, ◌∙◌, ap, subst, arith}
+use Rattle.std.specs.Prelude.{slice_index, slice_set}
+use Rattle.std.proofs.lemmas.Bool.{cases_Bool, cases_lt, false≢true}
 use Rattle.std.proofs.lemmas.List.{length_push, get_or_push, get_or_append_left}
 use Rattle.std.proofs.lemmas.Option.{get_or_from_slice_get, slice_get_within}
 use Rattle.sc_model.specs.Sets.{IsConfig}
+use Rattle.sc_model.proofs.SetLemmas.{IsConfig-set}
 use Rattle.sc_diagram.specs.declared.answers.Question.{Question}
 use Rattle.sc_diagram.specs.declared.operation.Operation.TheVariants.{Or}
 use Rattle.sc_diagram.specs.Applied.{Applies, IsApplication, application, cofactor}
-use Rattle.sc_diagram.specs.Diagram.{Diagram, IsDiagram, branch, end_at, branch_of, variable_of, sets_of}
+use Rattle.sc_diagram.specs.Diagram.{Diagram, IsDiagram, branch, end_at, variable_of, sets_of}
 use Rattle.sc_diagram.specs.Grown.{Grows, IsChoice, only, decides}
-use Rattle.sc_diagram.specs.Simplified.{Adds, AreAnswers, IsQuestion, IsWider, Simplifies, first_asked, question_at}
-use Rattle.sc_diagram.proofs.AppliedLemmas.{first-le, has_cofactor, later_cofactor, own_cofactor}
-use Rattle.sc_diagram.proofs.DiagramLemmas.{has_end, has_next, variable-le, variable_end}
+use Rattle.sc_diagram.specs.Simplified.{Adds, AreAnswers, HasOption, IsQuestion, IsSaid, IsWider, Simplifies, first_asked, question_at}
+use Rattle.sc_diagram.proofs.AppliedLemmas.{first-le, has_cofactor, has_cofactor-set, later_cofactor, never-cofactors, own_cofactor}
+use Rattle.sc_diagram.proofs.DiagramLemmas.{differ, has_end, has_free, has_next, variable-le, variable_end}
 use Rattle.sc_diagram.proofs.GrownLemmas.{has-Grows, own-Grows, variable_of-Grows}
 
 -- ---- as the diagram grows
@@ -20,6 +21,14 @@ use Rattle.sc_diagram.proofs.GrownLemmas.{has-Grows, own-Grows, variable_of-Grow
 module _ {d e : Diagram} (grows : Grows d e) where
   pub IsQuestion-Grows : {asked : Question} → IsQuestion d asked → IsQuestion e asked
   IsQuestion-Grows {asked} is = record { node = own-Grows grows asked.node is.node; within = own-Grows grows asked.within is.within }
+
+  IsSaid-Grows : {asked : Question} {says : Bool} → IsQuestion d asked → IsSaid d asked says → IsSaid e asked says
+  IsSaid-Grows {asked} is said = record {
+    config = said.config;
+    listed = subst (λ ns. IsConfig ns said.config) (sym grows.arities) said.listed;
+    held = has-Grows grows asked.within said.config is.within said.listed ∙ said.held;
+    is = has-Grows grows asked.node said.config is.node said.listed ∙ said.is;
+  }
 
   pub Simplifies-Grows : {asked : Question} {r : ℕ} → Simplifies d asked r → Simplifies e asked r
   Simplifies-Grows {asked} {r} is = record {
@@ -30,10 +39,18 @@ module _ {d e : Diagram} (grows : Grows d e) where
         let was = subst (λ ns. IsConfig ns c) grows.arities listed in
         has-Grows grows r c is.own was ∙ is.at c was (sym (has-Grows grows asked.within c is.question.within was) ∙ has)
         ∙ sym (has-Grows grows asked.node c is.question.node was);
+    said = λ some c listed.
+        let was = subst (λ ns. IsConfig ns c) grows.arities listed in
+        subst (IsSaid e asked) (sym (has-Grows grows r c is.own was)) (IsSaid-Grows is.question (is.said some c was));
   }
 
   pub AreAnswers-Grows : {answers : List (Question × ℕ)} → AreAnswers d answers → AreAnswers e answers
   AreAnswers-Grows are = record { each = λ p has. Simplifies-Grows (are.each p has) }
+
+-- where all is forgotten, no answer is wrong
+pub AreAnswers-bound : {d : Diagram} {old new : List (Question × ℕ)} → (new ≡ old) ⊎ (new ≡ []) → AreAnswers d old → AreAnswers d new
+AreAnswers-bound {d} (inl same) are = subst (AreAnswers d) (sym same) are
+AreAnswers-bound {d} (inr none) are = subst (AreAnswers d) (sym none) (record { each = λ e has. absurd (omega (arith, has.1)) })
 
 -- one more answer
 pub AreAnswers-Adds : {d : Diagram} {old new : List (Question × ℕ)} {asked : Question} {r : ℕ} → Adds old new asked r → AreAnswers d old → Simplifies d asked r → AreAnswers d new
@@ -45,21 +62,49 @@ AreAnswers-Adds {d} {old} {new} {asked} {r} adds are simplifies = record { each 
 
 -- ---- ends
 
+-- a node that is not never has a configuration
+some-config : {d : Diagram} → IsDiagram d → (n : ℕ) → n < length d.nodes → (n ≡ 0 → ⊥) → record { config : List ℕ; listed : IsConfig d.arities config; has : (sets_of d).has n config ≡ true }
+some-config {d} valid n own some =
+    let found = differ valid n 0 own (slice_get_within d.nodes 0 _ valid.never) some in
+    record {
+      config = found.config;
+      listed = found.listed;
+      has = elim (cases_Bool ((sets_of d).has n found.config)) [
+        | inl has ↦ has
+        | inr not ↦ absurd (found.differs (not ∙ sym (has_end valid found.config found.listed 0 (omega arith))))
+      ];
+    }
+
 -- every configuration that is asked for has the node
 pub same-nodes : {d : Diagram} (valid : IsDiagram d) (asked : Question) → IsQuestion d asked → asked.node ≡ asked.within → Simplifies d asked 1
 same-nodes {d} valid asked is same = record {
   question = is;
   own = slice_get_within d.nodes 1 _ valid.always;
-  from = omega (arith, variable-le valid asked.node is.node, end);
+  from = omega (arith, variable-le valid asked.node is.node, variable_end valid 1 (omega arith));
   at = λ c listed has. has_end valid c listed 1 (omega arith) ∙ sym (ap (λ n. (sets_of d).has n c) same ∙ has);
+  said = λ some c listed.
+      let one = some-config valid asked.within is.within some in
+      record { config = one.config; listed = one.listed; held = one.has; is = ap (λ n. (sets_of d).has n one.config) same ∙ one.has ∙ sym (has_end valid c listed 1 (omega arith)) };
 }
-  where
-    end : variable_of d 1 ≡ length d.arities
-    end = variable_end valid 1 (omega arith)
 
--- the node itself
-pub itself : {d : Diagram} (asked : Question) → IsQuestion d asked → Simplifies d asked asked.node
-itself {d} asked is = record { question = is; own = is.node; from = omega arith; at = λ c listed has. refl }
+-- the node itself, where it is an end, or where all configurations are asked for or none is
+pub itself : {d : Diagram} (valid : IsDiagram d) (asked : Question) → IsQuestion d asked → (asked.node ≤ 1) ⊎ (asked.within ≤ 1) → Simplifies d asked asked.node
+itself {d} valid asked is ends = record {
+  question = is;
+  own = is.node;
+  from = omega arith;
+  at = λ c listed has. refl;
+  said = λ some c listed. elim ends [
+    | inl low ↦ (
+        let one = some-config valid asked.within is.within some in
+        record { config = one.config; listed = one.listed; held = one.has; is = has_end valid one.config one.listed asked.node (omega (arith, low)) ∙ sym (has_end valid c listed asked.node (omega (arith, low))) }
+        )
+    | inr low ↦ (
+        let all : asked.within ≡ 1 = omega (arith, low, some) in
+        record { config = c; listed = listed; held = ap (λ n. (sets_of d).has n c) all ∙ has_end valid c listed 1 (omega arith); is = refl }
+        )
+  ];
+}
 
 -- ---- one step
 
@@ -69,6 +114,7 @@ pub record IsForOption (d : Diagram) (asked : Question) (v k r : ℕ) : Type 0 w
   pub own : r < length d.nodes
   pub later : v < variable_of d r
   pub at : (c : List ℕ) → IsConfig d.arities c → slice_index c v ≡ k → (sets_of d).has asked.within c ≡ true → (sets_of d).has r c ≡ (sets_of d).has asked.node c
+  pub said : (asked.within ≡ 0 → ⊥) → (c : List ℕ) → IsConfig d.arities c → IsSaid d asked ((sets_of d).has r c)
 
 pub record AreForOptions (d : Diagram) (asked : Question) (v : ℕ) (results : List ℕ) : Type 0 where
   pub each : (k : ℕ) → k < length results → IsForOption d asked v k (slice_index results k)
@@ -81,6 +127,9 @@ IsForOption-Grows {d} {e} {asked} {v} {k} {r} grows is for = record {
       let was = subst (λ ns. IsConfig ns c) grows.arities listed in
       has-Grows grows r c for.own was ∙ for.at c was chosen (sym (has-Grows grows asked.within c is.within was) ∙ has)
       ∙ sym (has-Grows grows asked.node c is.node was);
+  said = λ some c listed.
+      let was = subst (λ ns. IsConfig ns c) grows.arities listed in
+      subst (IsSaid e asked) (sym (has-Grows grows r c for.own was)) (IsSaid-Grows grows is (for.said some c was));
 }
 
 -- one more option, in a diagram that has grown
@@ -136,8 +185,8 @@ module _ {d e : Diagram} {asked : Question} {v : ℕ} (is : IsQuestion d asked) 
 
   -- what was found for an option that is like this one
   pub for-option : {f : Diagram} {q : Question} {r : ℕ} (k like : ℕ) → Grows e f → like < slice_index e.arities v → (cofactor e asked.within v k ≡ 0) ⊎ (like ≡ k)
-      → q ≡ question_at e asked v like → Simplifies f q r → IsForOption f asked v k r
-  for-option {f} {q} {r} k like more in_range cases same simplifies = record {
+      → (cofactor e asked.within v like ≡ 0 → (j : ℕ) → j < slice_index e.arities v → cofactor e asked.within v j ≡ 0) → q ≡ question_at e asked v like → Simplifies f q r → IsForOption f asked v k r
+  for-option {f} {q} {r} k like more in_range cases none same simplifies = record {
     own = simplifies.own;
     later = omega (arith, later, simplifies.from, ap (λ x. variable_of f x.node) same, variable_of-Grows more _ (own_cofactor grows.valid asked.node now.node v like inner_now in_range));
     at = λ c listed chosen has.
@@ -155,6 +204,22 @@ module _ {d e : Diagram} {asked : Question} {v : ℕ} (is : IsQuestion d asked) 
               ∙ ap (λ x. (sets_of f).has x.node c) same ∙ node_more ∙ node ∙ sym (has-Grows more asked.node c now.node was)
               )
         ];
+    said = λ some c listed.
+        let one = simplifies.said (λ never. some (never-cofactors grows.valid asked.within now.within v like inner_now in_range (none (sym (ap (λ x. x.within) same) ∙ never)))) c listed in
+        let was = subst (λ ns. IsConfig ns one.config) more.arities one.listed in
+        let set = IsConfig-set v like was inner_now in_range in
+        record {
+          config = slice_set one.config v like;
+          listed = subst (λ ns. IsConfig ns (slice_set one.config v like)) (sym more.arities) set;
+          held = has-Grows more asked.within (slice_set one.config v like) now.within set
+              ∙ sym (has_cofactor-set grows.valid asked.within now.within v like inner_now in_range within_now one.config was)
+              ∙ sym (has-Grows more _ one.config (own_cofactor grows.valid asked.within now.within v like inner_now in_range) was)
+              ∙ sym (ap (λ x. (sets_of f).has x.within one.config) same) ∙ one.held;
+          is = has-Grows more asked.node (slice_set one.config v like) now.node set
+              ∙ sym (has_cofactor-set grows.valid asked.node now.node v like inner_now in_range (omega (arith, node_now)) one.config was)
+              ∙ sym (has-Grows more _ one.config (own_cofactor grows.valid asked.node now.node v like inner_now in_range) was)
+              ∙ sym (ap (λ x. (sets_of f).has x.node one.config) same) ∙ one.is;
+        };
   }
     where
       now : IsQuestion e asked
@@ -174,6 +239,10 @@ module _ {d e : Diagram} {asked : Question} {v : ℕ} (is : IsQuestion d asked) 
         let k = slice_index c v in
         let in_range : k < length results = omega (arith, listed.each v (omega (arith, inner_now, ap length more.arities)), full, ap (λ ns. slice_index ns v) more.arities) in
         chosen c listed in_range choice ∙ (each k in_range).at c listed refl has;
+    said = λ some c listed.
+        let k = slice_index c v in
+        let in_range : k < length results = omega (arith, listed.each v (omega (arith, inner_now, ap length more.arities)), full, ap (λ ns. slice_index ns v) more.arities) in
+        subst (IsSaid f asked) (sym (chosen c listed in_range choice)) ((each k in_range).said some c listed);
   }
     where
       now : IsQuestion f asked
@@ -200,18 +269,45 @@ module _ {d e : Diagram} {asked : Question} {v : ℕ} (is : IsQuestion d asked) 
 
 -- the answer where more is asked for
 pub from-wider : {d e f : Diagram} {asked : Question} {wider r : ℕ} → IsQuestion d asked → Grows d e → Grows e f → IsWider e asked.within wider
-    → Simplifies f (record { node = asked.node; within = wider }) r → Simplifies f asked r
-from-wider {d} {e} {f} {asked} {wider} {r} is grows more is_wider simplifies = record {
+    → variable_of d asked.within < variable_of d asked.node → Simplifies f (record { node = asked.node; within = wider }) r → Simplifies f asked r
+from-wider {d} {e} {f} {asked} {wider} {r} is grows more is_wider low simplifies = record {
   question = IsQuestion-Grows more now;
   own = simplifies.own;
   from = simplifies.from;
   at = λ c listed has.
       let was = subst (λ ns. IsConfig ns c) more.arities listed in
       simplifies.at c listed (has-Grows more wider c is_wider.own was ∙ is_wider.at c was (sym (has-Grows more asked.within c now.within was) ∙ has));
+  said = λ some c listed.
+      let one = simplifies.said (wider-some some) c listed in
+      let was = subst (λ ns. IsConfig ns one.config) more.arities one.listed in
+      let found = is_wider.some one.config was (sym (has-Grows more wider one.config is_wider.own was) ∙ one.held) in
+      let set = IsConfig-set v found.option was inner found.in_range in
+      record {
+        config = slice_set one.config v found.option;
+        listed = subst (λ ns. IsConfig ns (slice_set one.config v found.option)) (sym more.arities) set;
+        held = has-Grows more asked.within (slice_set one.config v found.option) now.within set ∙ found.has;
+        is = has-Grows more asked.node (slice_set one.config v found.option) now.node set
+            ∙ has_free grows.valid one.config was v found.option asked.node now.node (omega (arith, low, variable_of-Grows grows asked.node is.node, top))
+            ∙ sym (has-Grows more asked.node one.config now.node was) ∙ one.is;
+      };
 }
   where
     now : IsQuestion e asked
     now = IsQuestion-Grows grows is
+
+    v : ℕ
+    v = variable_of e asked.within
+
+    top : v ≡ variable_of d asked.within
+    top = variable_of-Grows grows asked.within is.within
+
+    inner : v < length e.arities
+    inner = omega (arith, top, low, variable_of-Grows grows asked.node is.node, variable-le grows.valid asked.node now.node)
+
+    wider-some : (asked.within ≡ 0 → ⊥) → wider ≡ 0 → ⊥
+    wider-some some never =
+        let one = some-config grows.valid asked.within now.within some in
+        false≢true (sym (has_end grows.valid one.config one.listed 0 (omega arith)) ∙ sym (ap (λ n. (sets_of e).has n one.config) never) ∙ is_wider.at one.config one.listed one.has)
 
 -- no end is at a variable
 pub inner-node : {d : Diagram} {asked : Question} {v : ℕ} (valid : IsDiagram d) → IsQuestion d asked → 1 < asked.node → v ≡ variable_of d asked.node → v < length d.arities
@@ -249,12 +345,14 @@ pub record WidensBelow (d : Diagram) (node v count r : ℕ) : Type 0 where
   pub own : r < length d.nodes
   pub later : v < variable_of d r
   pub at : (c : List ℕ) → IsConfig d.arities c → slice_index c v < count → (sets_of d).has node c ≡ true → (sets_of d).has r c ≡ true
+  pub some : (c : List ℕ) → IsConfig d.arities c → (sets_of d).has r c ≡ true → HasOption d node v count c
 
 pub widens-none : {d : Diagram} {node v : ℕ} → IsDiagram d → v < length d.arities → WidensBelow d node v 0 0
 widens-none {d} {node} {v} valid within = record {
   own = slice_get_within d.nodes 0 _ valid.never;
   later = omega (arith, within, variable_end valid 0 (omega arith));
   at = λ c listed chosen has. absurd (omega (arith, chosen));
+  some = λ c listed has. absurd (false≢true (sym (has_end valid c listed 0 (omega arith)) ∙ has));
 }
 
 -- either is enough
@@ -262,6 +360,10 @@ either : (x y : Bool) → (x ≡ true) ⊎ (y ≡ true) → (x || y) ≡ true
 either true y is = refl
 either false y (inl is) = absurd (false≢true is)
 either false y (inr is) = is
+
+one-of : (x y : Bool) → (x || y) ≡ true → (x ≡ true) ⊎ (y ≡ true)
+one-of true y is = inl refl
+one-of false y is = inr is
 
 module _ {d : Diagram} {node v wider k : ℕ} (valid : IsDiagram d) (own : node < length d.nodes) (within : v < length d.arities) (in_range : k < slice_index d.arities v)
     (low : v ≤ variable_of d node) (below : WidensBelow d node v k wider) where
@@ -280,6 +382,24 @@ module _ {d : Diagram} {node v wider k : ℕ} (valid : IsDiagram d) (own : node 
           | inl less ↦ inl (has-Grows grows wider c below.own was ∙ below.at c was less had)
           | inr more ↦ inr (has-Grows grows _ c own_part was ∙ has_cofactor valid node own v k c was (omega (arith, chosen, more)) ∙ had)
         ]);
+    some = λ c listed has.
+        let was = subst (λ ns. IsConfig ns c) grows.arities listed in
+        elim (one-of _ _ (sym (applies.at c listed) ∙ has)) [
+          | inl before ↦ (
+              let found = below.some c was (sym (has-Grows grows wider c below.own was) ∙ before) in
+              record {
+                option = found.option;
+                in_range = omega (arith, found.in_range);
+                has = has-Grows grows node _ own (IsConfig-set v found.option was within (omega (arith, found.in_range, in_range))) ∙ found.has;
+              }
+              )
+          | inr here ↦ record {
+            option = k;
+            in_range = omega arith;
+            has = has-Grows grows node _ own (IsConfig-set v k was within in_range)
+                ∙ sym (has_cofactor-set valid node own v k within in_range low c was) ∙ sym (has-Grows grows _ c own_part was) ∙ here;
+          }
+        ];
   }
     where
       own_part : cofactor d node v k < length d.nodes
@@ -292,6 +412,7 @@ widens-all {d} {e} {node} {v} grows own top within count below = record {
   own = below.own;
   later = omega (arith, below.later, top, variable_of-Grows grows node own);
   at = λ c listed has. below.at c listed (omega (arith, count, listed.each v within)) has;
+  some = λ c listed has. subst (λ u. HasOption e node u (slice_index e.arities u) c) (top ∙ sym (variable_of-Grows grows node own)) (subst (λ n. HasOption e node v n c) count (below.some c listed has));
 }
 
 -- what is asked for is told of the diagram in which it was asked
@@ -300,3 +421,15 @@ pub keeps-asked : {d e : Diagram} {asked : Question} {r : ℕ} → Grows d e →
 keeps-asked {d} {e} {asked} {r} grows is simplifies c listed has =
     let now = subst (λ ns. IsConfig ns c) (sym grows.arities) listed in
     simplifies.at c now (has-Grows grows asked.within c is.within listed ∙ has) ∙ has-Grows grows asked.node c is.node listed
+
+pub said-asked : {d e : Diagram} {asked : Question} {r : ℕ} → Grows d e → IsQuestion d asked → Simplifies e asked r
+    → (b c : List ℕ) → IsConfig d.arities b → (sets_of d).has asked.within b ≡ true → IsConfig d.arities c → IsSaid d asked ((sets_of e).has r c)
+said-asked {d} {e} {asked} {r} grows is simplifies b c at held listed =
+    let one = simplifies.said (λ never. false≢true (sym (has_end grows.was b at 0 (omega arith)) ∙ sym (ap (λ n. (sets_of d).has n b) never) ∙ held)) c (subst (λ ns. IsConfig ns c) (sym grows.arities) listed) in
+    let was = subst (λ ns. IsConfig ns one.config) grows.arities one.listed in
+    record {
+      config = one.config;
+      listed = was;
+      held = sym (has-Grows grows asked.within one.config is.within was) ∙ one.held;
+      is = sym (has-Grows grows asked.node one.config is.node was) ∙ one.is;
+    }

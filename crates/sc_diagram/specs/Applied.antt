@@ -92,7 +92,8 @@ pub data IsShort (left right absorbing neutral : ℕ) : ℕ → Type 0 where
   right_absorbs : right ≡ absorbing → IsShort left right absorbing neutral right
   left_neutral : left ≡ neutral → IsShort left right absorbing neutral right
 
--- what the left node has and the right one has not, where one of them is an end or they are the same
+-- what the left node has and the right one has not, where one of them is an end or they are the
+-- same
 pub data IsRest (left right : ℕ) : ℕ → Type 0 where
   nothing : (left ≡ 0) ⊎ ((right ≡ 1) ⊎ (left ≡ right)) → IsRest left right 0
   whole : right ≡ 0 → IsRest left right left

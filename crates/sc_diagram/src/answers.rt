@@ -1,4 +1,4 @@
-ghost use Rattle.std.specs.Prelude.{◌≡◌, [], Contains, IfSome, OnOk, OnErr};
+ghost use Rattle.std.specs.Prelude.{◌≡◌, ◌⊎◌, [], Contains, IfSome, OnOk, OnErr};
 ghost use Rattle.sc_diagram.specs.Simplified.{Adds};
 
 use indexmap::IndexMap;
@@ -34,6 +34,15 @@ impl Answers {
     {
         Answers {
             answers: IndexMap::new(alloc),
+        }
+    }
+
+    /// Forgets all where that is more than so many.
+    pub fn bound(&mut self, most: usize, alloc: Global)
+        ensures { (self.new ≡ self.old) ⊎ (self.new ≡ []) }
+    {
+        if self.answers.len() > most {
+            self.answers = IndexMap::new(alloc);
         }
     }
 

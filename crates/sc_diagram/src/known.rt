@@ -1,4 +1,4 @@
-ghost use Rattle.std.specs.Prelude.{◌≡◌, [], Contains, IfSome, OnOk, OnErr};
+ghost use Rattle.std.specs.Prelude.{◌≡◌, ◌⊎◌, [], Contains, IfSome, OnOk, OnErr};
 ghost use Rattle.sc_diagram.specs.Applied.{Adds};
 
 use crate::operation::Application;
@@ -28,6 +28,15 @@ impl Known {
     {
         Known {
             results: IndexMap::new(alloc),
+        }
+    }
+
+    /// Forgets all where that is more than so many.
+    pub fn bound(&mut self, most: usize, alloc: Global)
+        ensures { (self.new ≡ self.old) ⊎ (self.new ≡ []) }
+    {
+        if self.results.len() > most {
+            self.results = IndexMap::new(alloc);
         }
     }
 

@@ -1,5 +1,5 @@
 //! Nodes that decide by fewer variables, where not all configurations are asked for.
-ghost use Rattle.std.specs.Prelude.{◌≡◌, ◌<◌, ◌⊎◌, IfOk, length, slice_index};
+ghost use Rattle.std.specs.Prelude.{◌≡◌, ◌<◌, ◌⊎◌, ℕ, IfOk, length, slice_index};
 ghost use Rattle.sc_diagram.specs.Applied.{IsKnown, cofactor};
 ghost use Rattle.sc_diagram.specs.Diagram.{variable_of};
 ghost use Rattle.sc_diagram.specs.Grown.{Grows};
@@ -71,6 +71,7 @@ fn option_like(table: &Table, node: usize, variable: usize, option: usize) -> us
     requires option { option < slice_index table.now.arities variable }
     ensures within { result < slice_index table.now.arities variable }
     ensures like { (cofactor table.now node variable option ≡ 0) ⊎ (result ≡ option) }
+    ensures some { cofactor table.now node variable result ≡ 0 → (k : ℕ) → k < slice_index table.now.arities variable → cofactor table.now node variable k ≡ 0 }
 {
     if table.cofactor(node, variable, option) != NEVER {
         return option;

@@ -5,7 +5,7 @@ ghost use Rattle.sc_diagram.specs.Decision.{IsDecisionOf, numbers_of};
 ghost use Rattle.sc_diagram.specs.Diagram.{IsDiagram, ends_over, sets_of};
 ghost use Rattle.sc_diagram.specs.Grown.{Grows, AddsOnly};
 ghost use Rattle.sc_diagram.specs.Applied.{IsApplication, Applies, application};
-ghost use Rattle.sc_diagram.specs.Simplified.{AreAnswers};
+ghost use Rattle.sc_diagram.specs.Simplified.{AreAnswers, SaysWithin};
 
 use crate::answers::{Answers, Question};
 use crate::apply::apply;
@@ -27,7 +27,8 @@ use std::marker::Model;
 /// Each node stands for one set of configurations, for good: the store only grows, also where a
 /// call finds no memory. Nodes of one store that stand for the same set are one. An operation adds
 /// no node but those of its result's diagram, `simplify` aside, and goes as deep as there are
-/// variables.
+/// variables. What operations made is looked up, as long as that is at most a quarter of the nodes;
+/// then all of it is forgotten (Brace, Rudell and Bryant 1990).
 #[derive(Drop)]
 pub struct Store {
     table: Table,
@@ -206,19 +207,24 @@ impl Store {
         self.make(Operation::Part(variable, option), a, a)
     }
 
-    /// A node that says what the given one says in the configurations of `within`. It decides by
-    /// none but the variables of that one, and often by fewer.
+    /// A node that says what the given one says in the configurations of `within`. What it says of
+    /// another one, the given one says of one of these. It decides by none but the variables of
+    /// that one, and often by fewer.
     pub fn simplify(&mut self, a: Node, within: Node) -> Result<Node, OutOfMemory>
         requires a_own { IsCond (sets_of self.old) a.0 }
         requires within_own { IsCond (sets_of self.old) within.0 }
         ensures own { IfOk result (λ r. IsCond (sets_of self.new) r.0) }
         ensures meaning { IfOk result (λ r. (c : List ℕ) → IsConfig self.old.arities c → (sets_of self.old).has within.0 c ≡ true
             → (sets_of self.new).has r.0 c ≡ (sets_of self.old).has a.0 c) }
+        ensures said { IfOk result (λ r. (b c : List ℕ) → IsConfig self.old.arities b → (sets_of self.old).has within.0 b ≡ true
+            → IsConfig self.old.arities c → SaysWithin (sets_of self.old) a.0 within.0 ((sets_of self.new).has r.0 c)) }
 
         // at every outcome
         ensures grows { Grows self.old self.new }
         ensures keeps { Keeps (sets_of self.old) (sets_of self.new) }
     {
+        let most = self.table.count() / 4;
+        self.answers.bound(most, self.table.allocator());
         let asked = Question {
             node: a.0,
             within: within.0,
@@ -295,6 +301,8 @@ impl Store {
         // at every outcome
         ensures grows { Grows self.old self.new }
     {
+        let most = self.table.count() / 4;
+        self.known.bound(most, self.table.allocator());
         let what = Application {
             operation,
             left: left.0,

@@ -11,7 +11,7 @@ use std::alloc::Global;
 use std::marker::Model;
 
 /// The children of a node, one for each option of its variable.
-pub type Children = SmallVec<usize, 4>;
+pub type Children = SmallVec<usize, 2>;
 
 /// The node that no configuration leads on from.
 pub const NEVER: usize = 0;

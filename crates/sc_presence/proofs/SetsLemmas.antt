@@ -1,12 +1,13 @@
 -- The sets that rows make, and what the operations on rows do to them.
-use Rattle.std.proofs.Common.{◌≡◌, ℕ, ◌<◌, ◌==◌, Bool, true, false, not, List, [], map, length, slice_get, ◌↔◌, Option, None, IfSome, IfNone, IsNone, Some, ◌⊎◌, inl, inr, refl, sym, ap, subst, ◌∙◌, arith}
+use Rattle.std.proofs.Common.{◌≡◌, ℕ, ◌<◌, ◌==◌, ◌&&◌, Bool, true, false, not, is_some, List, [], map, length, slice_get, ◌↔◌, Option, None, IfSome, IfNone, IsNone, Some, ◌⊎◌, inl, inr, refl, sym, ap, subst, ◌∙◌, arith}
 use Rattle.std.specs.List.{zip, range_with_len}
-use Rattle.std.specs.Prelude.{slice_index, slice_set}
+use Rattle.std.specs.Prelude.{EachIndex, slice_index, slice_set}
 use Rattle.std.proofs.lemmas.Bool.{false≢true, true≢false}
 use Rattle.std.proofs.lemmas.Option.{slice_get_within, get_or_from_slice_get, slice_get-get_or}
 use Rattle.std.proofs.lemmas.List.{length-map, get_or-map, ext_get_or, get_or-replicate}
 use Rattle.std.proofs.lemmas.List.FromFn.{get_or-map-range_with_len}
 use Rattle.std.proofs.lemmas.Slice.Zip.{length-zip, get_or-zip}
+use Rattle.sc_diagram.specs.Simplified.{SaysWithin}
 use Rattle.sc_model.specs.Growth.{Extends}
 use Rattle.sc_model.specs.Sets.{Sets, IsConfig, IsCond, Denotes, Keeps, IsNever, IsAlways, IsSame, IsCanonical, IsTop, config_count}
 use Rattle.sc_model.proofs.SetLemmas.{IsConfig-set, IsNever-DependsOn, IsAlways-DependsOn}
@@ -150,3 +151,64 @@ IsExample-config_at p a i into plain own same within holds = rw same (record {
 
 pub IsNever-IsExample : {p : Plain} {a : ℕ} {into : List ℕ} → IsExample p a into → IsNever (sets_of p) a → ⊥
 IsNever-IsExample example never = false≢true (sym (never.none _ example.listed) ∙ example.has)
+
+-- ---- two rows side by side, and the first place at which both pass a test
+
+module _ {p : Plain} (plain : IsPlain p) (a b : ℕ) (own_a : IsCond (sets_of p) a) (own_b : IsCond (sets_of p) b) (op : Bool → Bool → Bool) (row : List Bool)
+    (made : row ≡ map (λ x. op x.0 x.1) (zip (row_of p a) (row_of p b))) where
+  long-zip : length row ≡ config_count p.arities
+  long-zip = ap length made ∙ length-zipped op (row_of p a) (row_of p b) (config_count p.arities) (plain.long a own_a.made) (plain.long b own_b.made)
+
+  value-zip : (c : List ℕ) → IsConfig p.arities c → value_at row (rank (strides_of p.arities) c) ≡ op ((sets_of p).has a c) ((sets_of p).has b c)
+  value-zip c listed =
+      let i = rank (strides_of p.arities) c in
+      let low = rank-lt p.arities c listed in
+      let low_a : i < length (row_of p a) = omega (arith, plain.long a own_a.made) in
+      let low_b : i < length (row_of p b) = omega (arith, plain.long b own_b.made) in
+      let paired : i < length (zip (row_of p a) (row_of p b)) = omega (arith, length-zip (row_of p a) (row_of p b)) in
+      ap (λ xs. value_at xs i) made
+      ∙ get_or-map (λ (x : Bool × Bool). op x.0 x.1) _ i (false, false) false paired
+      ∙ ap (λ (x : Bool × Bool). op x.0 x.1) (get_or-zip (row_of p a) (row_of p b) i (false, false) low_a low_b)
+
+  pub none-pass : (r : Option ℕ) → is_some r ≡ false → IfNone r (EachIndex row (λ i. value_at row i ≡ false)) → (c : List ℕ) → IsConfig p.arities c
+      → op ((sets_of p).has a c) ((sets_of p).has b c) ≡ false
+  none-pass None told each c listed = sym (value-zip c listed) ∙ each (rank (strides_of p.arities) c) (omega (arith, rank-lt p.arities c listed, long-zip))
+  none-pass (Some i) told each c listed = absurd (true≢false told)
+
+  pub some-passes : (r : Option ℕ) → is_some r ≡ true → IfSome r (λ i. (i < length row) × (value_at row i ≡ true))
+      → record { config : List ℕ; listed : IsConfig p.arities config; passes : op ((sets_of p).has a config) ((sets_of p).has b config) ≡ true }
+  some-passes None told first = absurd (false≢true told)
+  some-passes (Some i) told first =
+      let config = config_at p.arities i in
+      let listed = IsConfig-config_at p.arities i plain.options in
+      record {
+        config = config;
+        listed = listed;
+        passes = sym (value-zip config listed) ∙ ap (value_at row) (rank-config_at-lt p.arities i plain.options (omega (arith, first.0, long-zip))) ∙ first.1;
+      }
+
+-- ---- what is simpler
+
+has-both : (x y : Bool) → (x && y) ≡ true → (x ≡ true) × (y ≡ true)
+has-both true y told = (refl, told)
+has-both false y told = absurd (false≢true told)
+
+has-first : (x y : Bool) → (x && not y) ≡ true → (x ≡ true) × (y ≡ false)
+has-first true true told = absurd (false≢true told)
+has-first true false told = (refl, refl)
+has-first false y told = absurd (false≢true told)
+
+pub not-outside : (x y : Bool) → (x && not y) ≡ false → x ≡ true → y ≡ true
+not-outside true true none has = refl
+not-outside true false none has = sym none
+not-outside false y none has = absurd (false≢true has)
+
+pub not-inside : (x y : Bool) → (x && y) ≡ false → x ≡ true → y ≡ false
+not-inside true y none has = none
+not-inside false y none has = absurd (false≢true has)
+
+-- both values come, at these configurations
+pub says-either : {s : Sets} {a within : ℕ} → record { config : List ℕ; listed : IsConfig s.arities config; passes : (s.has within config && not (s.has a config)) ≡ true }
+    → record { config : List ℕ; listed : IsConfig s.arities config; passes : (s.has within config && s.has a config) ≡ true } → (says : Bool) → SaysWithin s a within says
+says-either {s} {a} {within} outside inside true = let has = has-both _ _ inside.passes in record { config = inside.config; listed = inside.listed; held = has.0; is = has.1 }
+says-either {s} {a} {within} outside inside false = let has = has-first _ _ outside.passes in record { config = outside.config; listed = outside.listed; held = has.0; is = has.1 }

@@ -1,5 +1,6 @@
 ghost use Rattle.std.specs.Prelude.{◌≡◌, ℕ, ◌+◌, ◌<◌, ◌⊎◌, ◌↔◌, ◌==◌, ◌&&◌, ◌||◌, not, Bool, true, false, List, length, slice_index, slice_set, IsTrue, IsNone, IfSome, IfOk};
 ghost use Rattle.std.specs.Bool.{OnTrue, OnFalse};
+ghost use Rattle.sc_diagram.specs.Simplified.{SaysWithin};
 ghost use Rattle.sc_model.specs.Sets.{Sets, IsConfig, HasOptions, IsCond, Denotes, Keeps, IsNever, IsAlways, IsSame, IsCanonical, IsTop, DependsFrom};
 
 use sc_base::{Cond, OutOfMemory};
@@ -97,13 +98,16 @@ pub trait Conditions {
         ensures keeps { Keeps (sets self.old) (sets self.new) };
 
     /// A condition that says what the given one says in the configurations of `within`. What it
-    /// says of the others is free, so it is often simpler (Coudert and Madre 1990).
+    /// says of the others is free, so it is often simpler (Coudert and Madre 1990): where the given
+    /// one says the same of all of these, it is always or never.
     fn simplify(&mut self, a: Cond, within: Cond) -> Result<Cond, OutOfMemory>
         requires a_own { IsCond (sets self.old) a.0 }
         requires within_own { IsCond (sets self.old) within.0 }
         ensures own { IfOk result (λ r. IsCond (sets self.new) r.0) }
         ensures meaning { IfOk result (λ r. (c : List ℕ) → IsConfig (sets self.old).arities c → (sets self.old).has within.0 c ≡ true
             → (sets self.new).has r.0 c ≡ (sets self.old).has a.0 c) }
+        ensures said { IfOk result (λ r. (b c : List ℕ) → IsConfig (sets self.old).arities b → (sets self.old).has within.0 b ≡ true
+            → IsConfig (sets self.old).arities c → SaysWithin (sets self.old) a.0 within.0 ((sets self.new).has r.0 c)) }
 
         // at every outcome
         ensures keeps { Keeps (sets self.old) (sets self.new) };

@@ -149,8 +149,16 @@ impl Conditions for PlainSets {
         self.intern(row)
     }
 
-    // a condition is one row, and none is simpler than another
+    // a condition is one row, and no other is simpler but always and never
     fn simplify(&mut self, a: Cond, within: Cond) -> Result<Cond, OutOfMemory> {
+        let outside = rows::difference(self.alloc, self.row(within), self.row(a))?;
+        if rows::first(&outside).is_none() {
+            return Ok(ALWAYS);
+        }
+        let inside = rows::meet(self.alloc, self.row(within), self.row(a))?;
+        if rows::first(&inside).is_none() {
+            return Ok(NEVER);
+        }
         Ok(a)
     }
 

@@ -1,12 +1,10 @@
-use Rattle.std.proofs.Common.{◌≡◌, ◌-◌, ◌<◌, ◌≤◌, length, ap, arith}
+use Rattle.std.proofs.Common.{◌≡◌, ◌≤◌, length, inl, inr, ap, arith}
 use Rattle.sc_diagram.specs.Diagram.{variable_of}
 use Rattle.std.specs.Prelude.{slice_index}
 use Rattle.std.proofs.lemmas.List.{length_push}
 use Rattle.std.proofs.lemmas.Result.{IfOk-weaker}
-use Rattle.sc_diagram.specs.Simplified.{first_asked, question_at}
-use Rattle.sc_diagram.proofs.AppliedLemmas.{IsKnown-Grows, first-le}
-use Rattle.sc_diagram.proofs.DiagramLemmas.{variable-le}
-use Rattle.sc_diagram.proofs.GrownLemmas.{Grows-trans, own-Grows, variable_of-Grows}
+use Rattle.sc_diagram.proofs.AppliedLemmas.{IsKnown-Grows}
+use Rattle.sc_diagram.proofs.GrownLemmas.{Grows-trans, own-Grows}
 use Rattle.sc_diagram.proofs.SimplifiedLemmas.{AreAnswers-Adds, AreAnswers-Grows, AreForOptions-more, IsQuestion-Grows, deeper, deeper-wider, for-option, from-options, from-wider, inner-node, itself, later-options, question-at, same-nodes}
 use Rattle.sc_diagram.proofs.simplify.+simplify.Goals as goal
 
@@ -26,7 +24,7 @@ simplify-requires t c =
 
 pub returns-then-variable-clause-simplifies : goal.returns-then-variable-clause-simplifies
 returns-then-variable-clause-simplifies t c =
-    IfOk-weaker _ _ _ (λ r is. from-wider c.requires.question c.widened.ensures.grows c.simplify.ensures.grows c.in_ok-within.ensures.wider is) c.simplify.ensures.simplifies
+    IfOk-weaker _ _ _ (λ r is. from-wider c.requires.question c.widened.ensures.grows c.simplify.ensures.grows c.in_ok-within.ensures.wider (omega (arith, c.if-variable.true, c.variable-variable.ensures.variable)) is) c.simplify.ensures.simplifies
 
 pub simplify-requires-in-loop-option : goal.simplify-requires-in-loop-option
 simplify-requires-in-loop-option t c =
@@ -46,7 +44,7 @@ loop-option-preserved t c =
     let low : c.variable-variable.result ≤ variable_of c.args.table.now c.args.asked.within = omega (arith, c.if-variable.false, c.variable.ensures.variable) in
     let now = c.in_ok-child.ensures in
     let grows = c.simplify-in-loop-option.ensures.grows in
-    let one = for-option c.requires.question top inner low i.grows c.loop-option.option c.option_like-like.result grows c.option_like-like.ensures.within c.option_like-like.ensures.like c.question_at.ensures now.simplifies in
+    let one = for-option c.requires.question top inner low i.grows c.loop-option.option c.option_like-like.result grows c.option_like-like.ensures.within c.option_like-like.ensures.like c.option_like-like.ensures.some c.question_at.ensures now.simplifies in
     record {
       grows = Grows-trans i.grows grows;
       known = c.simplify-in-loop-option.ensures.known;
@@ -83,3 +81,6 @@ returns-clause-known t c = IsKnown-Grows c.choice.ensures.grows c.loop-option.in
 
 pub returns-clause-answers : goal.returns-clause-answers
 returns-clause-answers t c = AreAnswers-Adds c.in_ok-add.ensures.adds (AreAnswers-Grows c.choice.ensures.grows c.loop-option.invariant.answers) (returns-clause-simplifies t c)
+
+pub returns-then-node-le-ALWAYS-clause-simplifies : goal.returns-then-node-le-ALWAYS-clause-simplifies
+returns-then-node-le-ALWAYS-clause-simplifies t c = itself c.count-count.ensures.valid c.args.asked c.requires.question (elim c.then-node-le-ALWAYS.either [ inl low ↦ inl low | inr low ↦ inr low.1 ])
