@@ -98,7 +98,7 @@ pub Agree-tail : {s : Sets} {c d : List ℕ} (branch : Branch) (branches : List 
 Agree-tail {s} {c} {d} branch branches were = record { each = All-tail (λ (branch : Branch). s.has branch.cond.0 c ≡ s.has branch.cond.0 d) branch branches were.each }
 
 -- the two parts of a branch, and the whole
-pub halves : (whole item : Bool) (places : List ℕ) (place : ℕ) → (if whole && not (whole && item) then places ∷ [] else []) ++ (if whole && item then (places ++ place ∷ []) ∷ [] else [])
+pub halves : (whole item : Bool) (places : List ℕ) (place : ℕ) → (if whole && not item then places ∷ [] else []) ++ (if whole && item then (places ++ place ∷ []) ∷ [] else [])
     ≡ map (placed item place) (if whole then places ∷ [] else [])
 halves true true places place = refl
 halves true false places place = refl
@@ -111,11 +111,11 @@ undivided true false places place none = refl
 undivided false item places place none = refl
 
 -- both parts put behind what was found
-pub both_halves : (found more all : List (List ℕ)) (whole item : Bool) (places : List ℕ) (place : ℕ) → more ≡ found ++ (if whole && not (whole && item) then places ∷ [] else [])
+pub both_halves : (found more all : List (List ℕ)) (whole item : Bool) (places : List ℕ) (place : ℕ) → more ≡ found ++ (if whole && not item then places ∷ [] else [])
     → all ≡ more ++ (if whole && item then (places ++ place ∷ []) ∷ [] else []) → all ≡ found ++ map (placed item place) (if whole then places ∷ [] else [])
 both_halves found more all whole item places place first second =
     let having : List (List ℕ) = if whole && item then (places ++ place ∷ []) ∷ [] else [] in
-    let lacking : List (List ℕ) = if whole && not (whole && item) then places ∷ [] else [] in
+    let lacking : List (List ℕ) = if whole && not item then places ∷ [] else [] in
     second ∙ (ap (λ ls. ls ++ having) first ∙ (append_assoc found lacking having ∙ ap (λ ls. found ++ ls) (halves whole item places place)))
 
 -- the first branch of those that are left, divided

@@ -77,7 +77,7 @@ in_states-set s (y ∷ ys) (suc i) e x more test c within same joined =
 
 -- both parts of an entry, and the whole
 pub parted : (test : State → Bool) (before next : State) (whole item : Bool)
-    → ((test before && (whole && not (whole && item))) || (test next && (whole && item))) ≡ (test (if item then next else before) && whole)
+    → ((test before && (whole && not item)) || (test next && (whole && item))) ≡ (test (if item then next else before) && whole)
 parted test before next true true = by (test before) (test next)
   where
     by : (a b : Bool) → ((a && false) || (b && true)) ≡ (b && true)
@@ -103,10 +103,10 @@ parted test before next false item = by (test before) (test next) (test (if item
 
 -- added one after the other
 pub both_parts : (test : State → Bool) (before next : State) (whole item found mid all lacking having : Bool) → mid ≡ (found || (test before && lacking)) → all ≡ (mid || (test next && having))
-    → lacking ≡ (whole && not (whole && item)) → having ≡ (whole && item) → all ≡ (found || (test (if item then next else before) && whole))
+    → lacking ≡ (whole && not item) → having ≡ (whole && item) → all ≡ (found || (test (if item then next else before) && whole))
 both_parts test before next whole item found mid all lacking having first second is_lacking is_having =
-    second ∙ (ap (λ b. b || (test next && having)) first ∙ (ap (λ b. (found || (test before && b)) || (test next && having)) is_lacking ∙ (ap (λ b. (found || (test before && (whole && not (whole && item)))) || (test next && b)) is_having
-    ∙ (or_assoc found (test before && (whole && not (whole && item))) (test next && (whole && item)) ∙ ap (λ b. found || b) (parted test before next whole item)))))
+    second ∙ (ap (λ b. b || (test next && having)) first ∙ (ap (λ b. (found || (test before && b)) || (test next && having)) is_lacking ∙ (ap (λ b. (found || (test before && (whole && not item))) || (test next && b)) is_having
+    ∙ (or_assoc found (test before && (whole && not item)) (test next && (whole && item)) ∙ ap (λ b. found || b) (parted test before next whole item)))))
 
 -- a test that says the same of each entry's state
 pub in_states-same : (s : Sets) (xs : List Entry) (one two : State → Bool) (c : List ℕ) → All (λ (x : Entry). one x.state ≡ two x.state) xs → in_states s xs one c ≡ in_states s xs two c

@@ -69,8 +69,7 @@ fn divide<C: Conditions>(
         divided.push(without_call(cond, places))?;
         return Ok(());
     }
-    let others = conds.negate(having)?;
-    let lacking = conds.apply_and(cond, others)?;
+    let lacking = conds.apply_without(cond, item)?;
     add_branch(conds, divided, lacking, &places)?;
     places.push(place)?;
     divided.push(without_call(having, places))?;

@@ -127,8 +127,7 @@ fn divide<C: Conditions>(
     ensures keeps { Keeps (C.sets conds.old) (C.sets conds.new) }
 {
     let having = conds.apply_and(entry.cond, item)?;
-    let others = conds.negate(having)?;
-    let lacking = conds.apply_and(entry.cond, others)?;
+    let lacking = conds.apply_without(entry.cond, item)?;
     add(conds, next, entry.state, lacking)?;
     add(conds, next, state, having)?;
     Ok(())
