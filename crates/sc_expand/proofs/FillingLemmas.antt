@@ -8,7 +8,7 @@ use Rattle.sc_subst.specs.declared.part.Part.TheVariants as part
 
 module _ {T : Type 0} where
   -- some have it first, and others behind a token
-  pub put_parted : (h l : Bool) (t u : T) → (if h && l then u ∷ [] else []) ++ (if h && not (h && l) then t ∷ [] else []) ≡ (if h then (if l then u else t) ∷ [] else [])
+  pub put_parted : (h l : Bool) (t u : T) → (if h && l then u ∷ [] else []) ++ (if h && not l then t ∷ [] else []) ≡ (if h then (if l then u else t) ∷ [] else [])
   put_parted true true t u = refl
   put_parted true false t u = refl
   put_parted false true t u = refl
@@ -16,17 +16,14 @@ module _ {T : Type 0} where
 
   -- no configuration has it first
   pub put_whole : (h l : Bool) (t u : T) → (h && l) ≡ false → (if h then t ∷ [] else []) ≡ (if h then (if l then u else t) ∷ [] else [])
-  put_whole h l t u none =
-      ap (λ b. if b then t ∷ [] else []) (sym (and-true h)) ∙ (ap (λ b. (if b then u ∷ [] else []) ++ (if h && not b then t ∷ [] else [])) (sym none) ∙ put_parted h l t u)
-
-pub rest_parted : (h l : Bool) → (l && not (h && l)) ≡ (l && not h)
-rest_parted true true = refl
-rest_parted true false = refl
-rest_parted false l = refl
+  put_whole true l t u none = ap (λ b. (if b then u else t) ∷ []) (sym none)
+  put_whole false l t u none = refl
 
 -- none has it first, so those without a token before it are as they were
 pub rest_whole : (h l : Bool) → (h && l) ≡ false → l ≡ (l && not h)
-rest_whole h l none = sym (and-true l) ∙ (ap (λ b. l && not b) (sym none) ∙ rest_parted h l)
+rest_whole true true none = none
+rest_whole true false none = refl
+rest_whole false l none = sym (and-true l)
 
 -- ---- tokens that are put behind others
 

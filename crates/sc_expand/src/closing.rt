@@ -30,8 +30,7 @@ pub fn close<C: Conditions>(
     ensures keeps { Keeps (C.sets conds.old) (C.sets conds.new) }
 {
     let several = with_several(conds, rest)?;
-    let others = conds.negate(several)?;
-    let alone = conds.apply_and(under, others)?;
+    let alone = conds.apply_without(under, several)?;
     let called = conds.apply_and(under, several)?;
     let list = tokens_under(alloc, conds, rest, alone)?;
     let faults = unclosed(alloc, conds, rest, called)?;
@@ -109,8 +108,7 @@ fn unclosed<C: Conditions>(
     for index in 0..list.len() {
         let (has, hidden) = list.item(index);
         let first = conds.apply_and(has, left)?;
-        let others = conds.negate(has)?;
-        left = conds.apply_and(left, others)?;
+        left = conds.apply_without(left, has)?;
         if !conds.is_never(first) {
             faults.push(Fault {
                 cond: first,

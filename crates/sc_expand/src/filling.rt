@@ -47,9 +47,8 @@ fn put_spaced<C: Conditions>(
         made.push(has, token)?;
         return Ok(left);
     }
-    let others = conds.negate(first)?;
-    let later = conds.apply_and(has, others)?;
-    let rest = conds.apply_and(left, others)?;
+    let later = conds.apply_without(has, left)?;
+    let rest = conds.apply_without(left, has)?;
     made.push(first, with_space_as(token, space))?;
     made.push(later, token)?;
     Ok(rest)

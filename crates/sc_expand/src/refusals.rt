@@ -36,8 +36,7 @@ impl Refusals {
         if conds.is_never(cond) {
             return Ok(());
         }
-        let others = conds.negate(cond)?;
-        let live = conds.apply_and(self.live, others)?;
+        let live = conds.apply_without(self.live, cond)?;
         self.faults.push(Fault { cond, cause, place })?;
         self.live = live;
         Ok(())
@@ -57,8 +56,7 @@ impl Refusals {
         if conds.is_never(cond) {
             return Ok(());
         }
-        let others = conds.negate(cond)?;
-        let live = conds.apply_and(self.live, others)?;
+        let live = conds.apply_without(self.live, cond)?;
         let waiting = conds.apply_or(self.waiting, cond)?;
         self.live = live;
         self.waiting = waiting;

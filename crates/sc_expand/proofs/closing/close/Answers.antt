@@ -13,16 +13,14 @@ returns-clause-closed g c =
     let end = g.C.Conditions.sets c.unclosed.new.conds in
     let rest = c.args.rest.now in
     let list = c.in_ok-list.list in
-    let last = Keeps-trans c.apply_and-2.ensures.keeps c.tokens_under.ensures.keeps in
-    let two = Keeps-trans c.with_several.ensures.keeps c.negate.ensures.keeps in
-    let three = Keeps-trans two c.apply_and.ensures.keeps in
-    let keeps : Keeps s mid = Keeps-trans three last in
+    let last = Keeps-trans c.apply_and.ensures.keeps c.tokens_under.ensures.keeps in
+    let two = Keeps-trans c.with_several.ensures.keeps c.apply_without.ensures.keeps in
+    let keeps : Keeps s mid = Keeps-trans two last in
     let later : Keeps mid end = c.unclosed.ensures.keeps in
     let under = Denotes-self s c.args.under.0 c.requires.under_own in
     let several = c.in_ok-several.ensures.several in
-    let others = c.in_ok-others.ensures.meaning _ several in
-    let alone = Denotes-Keeps last (c.in_ok-alone.ensures.meaning _ _ (Denotes-Keeps two under) others) in
-    let called = Denotes-Keeps c.tokens_under.ensures.keeps (c.in_ok-called.ensures.meaning _ _ (Denotes-Keeps three under) (Denotes-Keeps (Keeps-trans c.negate.ensures.keeps c.apply_and.ensures.keeps) several)) in
+    let alone = Denotes-Keeps last (c.in_ok-alone.ensures.meaning _ _ (Denotes-Keeps c.with_several.ensures.keeps under) several) in
+    let called = Denotes-Keeps c.tokens_under.ensures.keeps (c.in_ok-called.ensures.meaning _ _ (Denotes-Keeps two under) (Denotes-Keeps c.apply_without.ensures.keeps several)) in
     let restricted = c.in_ok-list.ensures.restricted in
     let own = restricted-own mid c.in_ok-alone.alone.0 restricted in
     let faults = c.in_ok-faults.ensures in
@@ -56,22 +54,19 @@ returns-clause-closed g c =
           (λ k d h. later.at _ x (own k d h) here ∙ (tokens k d h ∙ sym (later.at _ y (own k d h) there)), faults.alike x y here there second both);
     }
 
-pub returns-in_err-alone-clause-keeps : goal.returns-in_err-alone-clause-keeps
-returns-in_err-alone-clause-keeps g c = Keeps-trans c.with_several.ensures.keeps (Keeps-trans c.negate.ensures.keeps c.apply_and.ensures.keeps)
-
 pub returns-in_err-called-clause-keeps : goal.returns-in_err-called-clause-keeps
-returns-in_err-called-clause-keeps g c = Keeps-trans c.with_several.ensures.keeps (Keeps-trans c.negate.ensures.keeps (Keeps-trans c.apply_and.ensures.keeps c.apply_and-2.ensures.keeps))
+returns-in_err-called-clause-keeps g c = Keeps-trans c.with_several.ensures.keeps (Keeps-trans c.apply_without.ensures.keeps c.apply_and.ensures.keeps)
 
 pub returns-in_err-list-clause-keeps : goal.returns-in_err-list-clause-keeps
-returns-in_err-list-clause-keeps g c = Keeps-trans c.with_several.ensures.keeps (Keeps-trans c.negate.ensures.keeps (Keeps-trans c.apply_and.ensures.keeps (Keeps-trans c.apply_and-2.ensures.keeps c.tokens_under.ensures.keeps)))
+returns-in_err-list-clause-keeps g c = Keeps-trans c.with_several.ensures.keeps (Keeps-trans c.apply_without.ensures.keeps (Keeps-trans c.apply_and.ensures.keeps c.tokens_under.ensures.keeps))
 
 pub unclosed-requires-clause-own : goal.unclosed-requires-clause-own
 unclosed-requires-clause-own g c =
-    let keeps = Keeps-trans c.with_several.ensures.keeps (Keeps-trans c.negate.ensures.keeps (Keeps-trans c.apply_and.ensures.keeps (Keeps-trans c.apply_and-2.ensures.keeps c.tokens_under.ensures.keeps))) in
+    let keeps = Keeps-trans c.with_several.ensures.keeps (Keeps-trans c.apply_without.ensures.keeps (Keeps-trans c.apply_and.ensures.keeps c.tokens_under.ensures.keeps)) in
     λ k d h. keeps.own _ (c.requires.own k d h)
 
 pub returns-in_err-faults-clause-keeps : goal.returns-in_err-faults-clause-keeps
-returns-in_err-faults-clause-keeps g c = Keeps-trans c.with_several.ensures.keeps (Keeps-trans c.negate.ensures.keeps (Keeps-trans c.apply_and.ensures.keeps (Keeps-trans c.apply_and-2.ensures.keeps (Keeps-trans c.tokens_under.ensures.keeps c.unclosed.ensures.keeps))))
+returns-in_err-faults-clause-keeps g c = Keeps-trans c.with_several.ensures.keeps (Keeps-trans c.apply_without.ensures.keeps (Keeps-trans c.apply_and.ensures.keeps (Keeps-trans c.tokens_under.ensures.keeps c.unclosed.ensures.keeps)))
 
 pub returns-clause-keeps : goal.returns-clause-keeps
-returns-clause-keeps g c = Keeps-trans c.with_several.ensures.keeps (Keeps-trans c.negate.ensures.keeps (Keeps-trans c.apply_and.ensures.keeps (Keeps-trans c.apply_and-2.ensures.keeps (Keeps-trans c.tokens_under.ensures.keeps c.unclosed.ensures.keeps))))
+returns-clause-keeps g c = Keeps-trans c.with_several.ensures.keeps (Keeps-trans c.apply_without.ensures.keeps (Keeps-trans c.apply_and.ensures.keeps (Keeps-trans c.tokens_under.ensures.keeps c.unclosed.ensures.keeps)))

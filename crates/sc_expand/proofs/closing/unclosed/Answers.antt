@@ -25,30 +25,28 @@ apply_and-requires-clause-a_own g c =
     let first = g.C.Conditions.sets c.args.conds.now in
     c.loop-index.invariant.keeps.own _ (at-index (λ (x : Cond × Hidden). IsCond first x.0.0) c.args.list.now c.loop-index.index (c.item.result.0, c.item.result.1.now) c.item.ensures c.requires.own)
 
-pub negate-requires : goal.negate-requires
-negate-requires g c =
+pub apply_without-requires-clause-b_own : goal.apply_without-requires-clause-b_own
+apply_without-requires-clause-b_own g c =
     let first = g.C.Conditions.sets c.args.conds.now in
     (Keeps-trans c.loop-index.invariant.keeps c.apply_and.ensures.keeps).own _
     (at-index (λ (x : Cond × Hidden). IsCond first x.0.0) c.args.list.now c.loop-index.index (c.item.result.0, c.item.result.1.now) c.item.ensures c.requires.own)
 
 pub is_never-requires : goal.is_never-requires
-is_never-requires g c = (Keeps-trans c.negate.ensures.keeps c.apply_and-in-loop-index.ensures.keeps).own _ c.in_ok-first.ensures.own
+is_never-requires g c = c.apply_without.ensures.keeps.own _ c.in_ok-first.ensures.own
 
 pub loop-index-preserved : goal.loop-index-preserved
 loop-index-preserved g c =
     let first = g.C.Conditions.sets c.args.conds.now in
-    let now = g.C.Conditions.sets c.apply_and-in-loop-index.new.self in
+    let now = g.C.Conditions.sets c.apply_without.new.self in
     let i = c.loop-index.index in
     let list = c.args.list.now in
     let was = c.loop-index.invariant in
     let item : Cond × Hidden = (c.item.result.0, c.item.result.1.now) in
     let at = c.item.ensures in
     let has = Denotes-Keeps was.keeps (Denotes-self first item.0.0 (at-index (λ (x : Cond × Hidden). IsCond first x.0.0) list i item at c.requires.own)) in
-    let later = Keeps-trans c.negate.ensures.keeps c.apply_and-in-loop-index.ensures.keeps in
-    let keeps = Keeps-trans c.apply_and.ensures.keeps later in
-    let told = Denotes-Keeps later (c.in_ok-first.ensures.meaning _ _ has was.left) in
-    let others = c.in_ok-others.ensures.meaning _ (Denotes-Keeps c.apply_and.ensures.keeps has) in
-    let left = c.in_ok-left.ensures.meaning _ _ (Denotes-Keeps (Keeps-trans c.apply_and.ensures.keeps c.negate.ensures.keeps) was.left) others in
+    let keeps = Keeps-trans c.apply_and.ensures.keeps c.apply_without.ensures.keeps in
+    let told = Denotes-Keeps c.apply_without.ensures.keeps (c.in_ok-first.ensures.meaning _ _ has was.left) in
+    let left = c.in_ok-left.ensures.meaning _ _ (Denotes-Keeps c.apply_and.ensures.keeps was.left) (Denotes-Keeps c.apply_and.ensures.keeps has) in
     let met = c.in_ok-first.first in
     let fault : Fault = record { cond = met; cause = UnterminatedCall; place = item.1.token.place } in
     let adds : Adds now met.0 fault c.loop-index.faults.items c.if-not-is_never.faults.items =
@@ -85,14 +83,8 @@ returns-clause-faults g c = λ x listed.
 pub returns-in_err-first-clause-keeps : goal.returns-in_err-first-clause-keeps
 returns-in_err-first-clause-keeps g c = Keeps-trans c.loop-index.invariant.keeps c.apply_and.ensures.keeps
 
-pub returns-in_err-others-clause-keeps : goal.returns-in_err-others-clause-keeps
-returns-in_err-others-clause-keeps g c = Keeps-trans c.loop-index.invariant.keeps (Keeps-trans c.apply_and.ensures.keeps c.negate.ensures.keeps)
-
-pub apply_and-requires-in-loop-index-clause-a_own : goal.apply_and-requires-in-loop-index-clause-a_own
-apply_and-requires-in-loop-index-clause-a_own g c = (Keeps-trans c.apply_and.ensures.keeps c.negate.ensures.keeps).own _ c.loop-index.invariant.left.own
-
 pub returns-in_err-left-clause-keeps : goal.returns-in_err-left-clause-keeps
-returns-in_err-left-clause-keeps g c = Keeps-trans c.loop-index.invariant.keeps (Keeps-trans c.apply_and.ensures.keeps (Keeps-trans c.negate.ensures.keeps c.apply_and-in-loop-index.ensures.keeps))
+returns-in_err-left-clause-keeps g c = Keeps-trans c.loop-index.invariant.keeps (Keeps-trans c.apply_and.ensures.keeps c.apply_without.ensures.keeps)
 
 pub returns-in_err-push-clause-keeps : goal.returns-in_err-push-clause-keeps
-returns-in_err-push-clause-keeps g c = Keeps-trans c.loop-index.invariant.keeps (Keeps-trans c.apply_and.ensures.keeps (Keeps-trans c.negate.ensures.keeps c.apply_and-in-loop-index.ensures.keeps))
+returns-in_err-push-clause-keeps g c = Keeps-trans c.loop-index.invariant.keeps (Keeps-trans c.apply_and.ensures.keeps c.apply_without.ensures.keeps)

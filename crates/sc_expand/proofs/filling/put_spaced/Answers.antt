@@ -1,7 +1,7 @@
 use Rattle.std.proofs.Common.{◌∙◌, ◌&&◌, ◌++◌, ◌∷◌, [], not, sym, ap, subst, if◌then◌else◌}
 use Rattle.sc_expand.proofs.AlikeLemmas.{IsAlike-Keeps, alike-of}
 use Rattle.sc_expand.proofs.Facts.{Denotes-Keeps, Denotes-self, IsConfig-Keeps, Keeps-refl, Keeps-trans}
-use Rattle.sc_expand.proofs.FillingLemmas.{adds-as, adds-none, adds-one, adds-then, spaced_token, put_parted, put_whole, rest_parted, rest_whole}
+use Rattle.sc_expand.proofs.FillingLemmas.{adds-as, adds-none, adds-one, adds-then, spaced_token, put_parted, put_whole, rest_whole}
 use Rattle.sc_expand.proofs.Terms.{IsHeldToken, spaced}
 use Rattle.sc_expand.proofs.filling.put_spaced.Goals as goal
 
@@ -33,17 +33,16 @@ returns-then-is_never-clause-left g c =
 pub returns-clause-adds : goal.returns-clause-adds
 returns-clause-adds g c =
     let old = g.C.Conditions.sets c.args.conds.now in
-    let new = g.C.Conditions.sets c.apply_and-3.new.self in
+    let new = g.C.Conditions.sets c.apply_without-2.new.self in
     let t = c.args.token in
     let u = c.with_space_as.result in
-    let keeps_later = c.apply_and-3.ensures.keeps in
-    let keeps_first = Keeps-trans c.negate.ensures.keeps (Keeps-trans c.apply_and-2.ensures.keeps keeps_later) in
-    let keeps_two = Keeps-trans c.apply_and.ensures.keeps c.negate.ensures.keeps in
+    let keeps_later = c.apply_without-2.ensures.keeps in
+    let keeps_first = Keeps-trans c.apply_without.ensures.keeps keeps_later in
     let keeps = Keeps-trans c.apply_and.ensures.keeps keeps_first in
-    let told = c.in_ok-first.ensures.meaning _ _ (Denotes-self old c.args.has.0 c.requires.has_own) (Denotes-self old c.args.left.0 c.requires.left_own) in
-    let others = c.in_ok-others.ensures.meaning _ told in
-    let first = Denotes-Keeps keeps_first told in
-    let later = Denotes-Keeps keeps_later (c.in_ok-later.ensures.meaning _ _ (Denotes-Keeps keeps_two (Denotes-self old c.args.has.0 c.requires.has_own)) others) in
+    let has = Denotes-self old c.args.has.0 c.requires.has_own in
+    let left = Denotes-self old c.args.left.0 c.requires.left_own in
+    let first = Denotes-Keeps keeps_first (c.in_ok-first.ensures.meaning _ _ has left) in
+    let later = Denotes-Keeps keeps_later (c.in_ok-later.ensures.meaning _ _ (Denotes-Keeps c.apply_and.ensures.keeps has) (Denotes-Keeps c.apply_and.ensures.keeps left)) in
     let none = adds-none c.args.made.now c.requires.own keeps in
     let one = adds-one c.args.made.now c.in_ok-first.first u none.own first.own c.in_ok-push-2.ensures.ok in
     let two = adds-one c.push-2.new.self c.in_ok-later.later t one.own later.own c.in_ok-push-3.ensures.ok in
@@ -57,20 +56,12 @@ returns-clause-adds g c =
     (λ x y p q alike.
     let here = IsConfig-Keeps keeps p in
     let there = IsConfig-Keeps keeps q in
-    (tt, (alike-of {cond = c.in_ok-first.first} first here there (λ i. alike.1 i && alike.0 i), alike-of {cond = c.in_ok-later.later} later here there (λ i. alike.1 i && not (alike.1 i && alike.0 i)))))
+    (tt, (alike-of {cond = c.in_ok-first.first} first here there (λ i. alike.1 i && alike.0 i), alike-of {cond = c.in_ok-later.later} later here there (λ i. alike.1 i && not (alike.0 i)))))
 
 pub returns-clause-left : goal.returns-clause-left
 returns-clause-left g c =
     let old = g.C.Conditions.sets c.args.conds.now in
-    let keeps_two = Keeps-trans c.apply_and.ensures.keeps c.negate.ensures.keeps in
-    let first = c.in_ok-first.ensures.meaning _ _ (Denotes-self old c.args.has.0 c.requires.has_own) (Denotes-self old c.args.left.0 c.requires.left_own) in
-    let others = c.in_ok-others.ensures.meaning _ first in
-    let left = Denotes-Keeps (Keeps-trans keeps_two c.apply_and-2.ensures.keeps) (Denotes-self old c.args.left.0 c.requires.left_own) in
-    let rest = c.in_ok-rest.ensures.meaning _ _ left (Denotes-Keeps c.apply_and-2.ensures.keeps others) in
-    record {
-      own = rest.own;
-      at = λ x here. rest.at x here ∙ rest_parted (old.has c.args.has.0 x) (old.has c.args.left.0 x);
-    }
-
-pub returns-in_err-rest-clause-keeps : goal.returns-in_err-rest-clause-keeps
-returns-in_err-rest-clause-keeps g c = Keeps-trans (Keeps-trans c.apply_and.ensures.keeps c.negate.ensures.keeps) (Keeps-trans c.apply_and-2.ensures.keeps c.apply_and-3.ensures.keeps)
+    let before = Keeps-trans c.apply_and.ensures.keeps c.apply_without.ensures.keeps in
+    let left = Denotes-self old c.args.left.0 c.requires.left_own in
+    let has = Denotes-self old c.args.has.0 c.requires.has_own in
+    c.in_ok-rest.ensures.meaning _ _ (Denotes-Keeps before left) (Denotes-Keeps before has)

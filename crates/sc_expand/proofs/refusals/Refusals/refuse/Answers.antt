@@ -1,6 +1,6 @@
 use Rattle.std.proofs.Common.{◌∙◌, ◌++◌, ◌∷◌, ◌<◌, ◌&&◌, [], All, append-nil, drop, map, not, refl, sym, ap, subst, if◌then◌else◌}
 use Rattle.sc_expand.proofs.AlikeLemmas.{AreAlikeFaults-Keeps, IsAlike-Keeps, All-drop-push, alike-of}
-use Rattle.sc_expand.proofs.Facts.{All-drop, All-push, Denotes-Keeps, Denotes-self, IsConfig-Keeps, Keeps-trans, faults_at-Keeps, faults_at-append, map-append, map-one}
+use Rattle.sc_expand.proofs.Facts.{All-drop, All-push, Denotes-self, IsConfig-Keeps, faults_at-Keeps, faults_at-append, map-append, map-one}
 use Rattle.sc_expand.proofs.TakingLemmas.{stays-there}
 use Rattle.sc_expand.proofs.Terms.{Fault, IsAlike, IsCond, Keeps, failures_at, faults_at, seen_failure}
 use Rattle.sc_expand.proofs.refusals.Refusals.refuse.Goals as goal
@@ -21,11 +21,11 @@ returns-then-is_never-clause-refuses g c =
 pub returns-clause-refuses : goal.returns-clause-refuses
 returns-clause-refuses g c =
     let old = g.C.Conditions.sets c.args.conds.now in
-    let new = g.C.Conditions.sets c.apply_and.new.self in
+    let new = g.C.Conditions.sets c.apply_without.new.self in
     let faults = c.args.self.now.faults.items in
     let fault : Fault = record { cond = c.args.cond; cause = c.args.cause; place = c.args.place } in
-    let keeps : Keeps old new = Keeps-trans c.negate.ensures.keeps c.apply_and.ensures.keeps in
-    let live = c.in_ok-live.ensures.meaning _ _ (Denotes-Keeps c.negate.ensures.keeps (Denotes-self old c.args.self.now.live.0 c.requires.live)) (c.in_ok-others.ensures.meaning _ (Denotes-self old c.args.cond.0 c.requires.own)) in
+    let keeps : Keeps old new = c.apply_without.ensures.keeps in
+    let live = c.in_ok-live.ensures.meaning _ _ (Denotes-self old c.args.self.now.live.0 c.requires.live) (Denotes-self old c.args.cond.0 c.requires.own) in
     record {
       live = live;
       waiting = refl;

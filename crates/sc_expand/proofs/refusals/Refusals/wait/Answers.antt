@@ -16,10 +16,10 @@ returns-then-is_never-clause-waits g c =
 pub returns-clause-waits : goal.returns-clause-waits
 returns-clause-waits g c =
     let old = g.C.Conditions.sets c.args.conds.now in
-    let n = c.negate.ensures.keeps in
-    let a = c.apply_and.ensures.keeps in
+    let keeps = c.apply_without.ensures.keeps in
+    let cond = Denotes-self old c.args.cond.0 c.requires.own in
     record {
-      live = Denotes-Keeps c.apply_or.ensures.keeps (c.in_ok-live.ensures.meaning _ _ (Denotes-Keeps n (Denotes-self old c.args.self.now.live.0 c.requires.live)) (c.in_ok-others.ensures.meaning _ (Denotes-self old c.args.cond.0 c.requires.own)));
-      waiting = c.in_ok-waiting.ensures.meaning _ _ (Denotes-Keeps a (Denotes-Keeps n (Denotes-self old c.args.self.now.waiting.0 c.requires.waiting))) (Denotes-Keeps a (Denotes-Keeps n (Denotes-self old c.args.cond.0 c.requires.own)));
+      live = Denotes-Keeps c.apply_or.ensures.keeps (c.in_ok-live.ensures.meaning _ _ (Denotes-self old c.args.self.now.live.0 c.requires.live) cond);
+      waiting = c.in_ok-waiting.ensures.meaning _ _ (Denotes-Keeps keeps (Denotes-self old c.args.self.now.waiting.0 c.requires.waiting)) (Denotes-Keeps keeps cond);
       faults = refl;
     }
