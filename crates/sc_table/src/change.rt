@@ -105,8 +105,7 @@ fn with_free<C: Conditions>(
     // at every outcome
     ensures keeps { Keeps (C.sets conds.old) (C.sets conds.new) }
 {
-    let free = conds.negate(others)?;
-    let taken = conds.apply_and(live, free)?;
+    let taken = conds.apply_without(live, others)?;
     let whole = conds.apply_or(mine, taken)?;
     Ok(whole)
 }
@@ -161,8 +160,7 @@ pub fn with_rest<C: Conditions>(
     ensures keeps { Keeps (C.sets conds.old) (C.sets conds.new) }
 {
     let all = union(conds, &parts)?;
-    let others = conds.negate(all)?;
-    let rest = conds.apply_and(cond, others)?;
+    let rest = conds.apply_without(cond, all)?;
     let mut answer = with_options(alloc, parts)?;
     if conds.is_never(rest) {
         return Ok(answer);
