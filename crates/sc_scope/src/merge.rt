@@ -8,7 +8,7 @@ ghost use Rattle.sc_scope.specs.Search.{AreOwn};
 
 use crate::bindings::Bindings;
 use crate::kind::NameKind;
-use crate::search::{Search, search_bindings, without};
+use crate::search::{Search, search_bindings};
 use sc_base::{Cond, OutOfMemory};
 use sc_presence::Conditions;
 use std::alloc::Global;
@@ -86,7 +86,7 @@ fn kinds_under<C: Conditions>(
     };
     let found = search_bindings(conds, search, bindings)?;
     let others = conds.apply_or(found.left, found.types)?;
-    let variables = without(conds, cond, others)?;
+    let variables = conds.apply_without(cond, others)?;
     Ok(Kinds {
         variables,
         types: found.types,

@@ -1,5 +1,5 @@
-ghost use Rattle.std.specs.Prelude.{ℕ, ◌&&◌, ◌∷◌, [], not, Bool, List, IfOk};
-ghost use Rattle.sc_model.specs.Sets.{IsCond, Denotes, Keeps};
+ghost use Rattle.std.specs.Prelude.{◌∷◌, [], IfOk};
+ghost use Rattle.sc_model.specs.Sets.{IsCond, Keeps};
 ghost use Rattle.sc_scope.specs.Kept.{bindings_of, levels_of};
 ghost use Rattle.sc_scope.specs.Search.{bindings_in, AreOwn, GoesOn};
 
@@ -107,7 +107,7 @@ fn take_typedef<C: Conditions>(
 {
     let part = conds.apply_and(search.left, cond)?;
     let types = conds.apply_or(search.types, part)?;
-    let left = without(conds, search.left, cond)?;
+    let left = conds.apply_without(search.left, cond)?;
     Ok(Search { left, types })
 }
 
@@ -124,23 +124,9 @@ fn take_variable<C: Conditions>(
     // at every outcome
     ensures keeps { Keeps (C.sets conds.old) (C.sets conds.new) }
 {
-    let left = without(conds, search.left, cond)?;
+    let left = conds.apply_without(search.left, cond)?;
     Ok(Search {
         left,
         types: search.types,
     })
-}
-
-/// The configurations that the first condition has and the second has not.
-pub(crate) fn without<C: Conditions>(conds: &mut C, a: Cond, b: Cond) -> Result<Cond, OutOfMemory>
-    requires a_own { IsCond (C.sets conds.old) a.0 }
-    requires b_own { IsCond (C.sets conds.old) b.0 }
-    ensures meaning { IfOk result (λ r. (f g : List ℕ → Bool) → Denotes (C.sets conds.old) a.0 f
-        → Denotes (C.sets conds.old) b.0 g → Denotes (C.sets conds.new) r.0 (λ c. f c && not (g c))) }
-
-    // at every outcome
-    ensures keeps { Keeps (C.sets conds.old) (C.sets conds.new) }
-{
-    let others = conds.negate(b)?;
-    conds.apply_and(a, others)
 }

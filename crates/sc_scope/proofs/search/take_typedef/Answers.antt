@@ -11,6 +11,6 @@ returns-clause-found g c =
     let before = Keeps-trans c.apply_and.ensures.keeps c.apply_or.ensures.keeps in
     let part = c.in_ok-part.ensures.meaning left cond (Denotes-has c.requires.left) (Denotes-has c.requires.own) in
     let more = c.in_ok-types.ensures.meaning types _ (Denotes-Keeps c.apply_and.ensures.keeps (Denotes-has c.requires.types)) part in
-    GoesOn-typedef s _ c.args.search _ c.args.cond (Keeps-trans before c.without.ensures.keeps) c.requires.left c.requires.types c.requires.own
-    (Denotes-Keeps c.without.ensures.keeps more)
+    GoesOn-typedef s _ c.args.search _ c.args.cond (Keeps-trans before c.apply_without.ensures.keeps) c.requires.left c.requires.types c.requires.own
+    (Denotes-Keeps c.apply_without.ensures.keeps more)
     (c.in_ok-left.ensures.meaning left cond (Denotes-Keeps before (Denotes-has c.requires.left)) (Denotes-Keeps before (Denotes-has c.requires.own)))
