@@ -10,7 +10,7 @@ use Rattle.sc_base.specs.declared.id.TreeId.{TreeId}
 use Rattle.sc_guarded.specs.Items.{items_at}
 use Rattle.sc_guarded.proofs.ItemLemmas.{items_at-append, items_at-Keeps}
 use Rattle.sc_model.specs.Sets.{Sets, IsConfig, IsCond, Denotes, Keeps}
-use Rattle.sc_model.proofs.SetLemmas.{Denotes-self, IsConfig-Keeps, Keeps-trans}
+use Rattle.sc_model.proofs.SetLemmas.{Denotes-Keeps, Denotes-self, IsConfig-Keeps, Keeps-trans}
 use Rattle.sc_tree.proofs.Steps.{line-at}
 use Rattle.sc_tree.proofs.WalkLemmas.{met-has}
 use Rattle.sc_tree.specs.declared.line.Line as kept
@@ -57,16 +57,11 @@ notes-if items own met true false = ap (λ xs. xs ++ met) (append-nil items)
 notes-if items own met false h = append-nil (items ++ [])
 
 -- the configurations that are left have no list
-pub rest-has : (s0 s1 s2 s3 : Sets) (left cond others rest : Cond) (d : List ℕ) → Keeps s0 s1 → Keeps s1 s2 → Keeps s2 s3 → IsConfig s0.arities d → IsCond s0 left.0 → IsCond s0 cond.0
-    → ((f : List ℕ → Bool) → Denotes s1 cond.0 f → Denotes s2 others.0 (λ c. not (f c)))
-    → IsCond s2 others.0 → ((f g : List ℕ → Bool) → Denotes s2 left.0 f → Denotes s2 others.0 g → Denotes s3 rest.0 (λ c. f c && g c))
-    → s3.has rest.0 d ≡ (s0.has left.0 d && not (s0.has cond.0 d))
-rest-has s0 s1 s2 s3 left cond others rest d k1 k2 k3 is own_left own_cond negates own_others meets =
-    let k02 = Keeps-trans k1 k2 in
-    met-has s2 s3 left.0 others.0 rest.0 d meets (k02.own left.0 own_left) own_others k3 (IsConfig-Keeps k02 is)
-    ∙ ap (λ b. b && s2.has others.0 d) (k02.at left.0 d own_left is)
-    ∙ ap (λ b. s0.has left.0 d && b)
-    ((negates (s1.has cond.0) (Denotes-self s1 cond.0 (k1.own cond.0 own_cond))).at d (IsConfig-Keeps k02 is) ∙ ap not (k1.at cond.0 d own_cond is))
+pub rest-has : (s0 s1 s2 : Sets) (left cond rest : Cond) (d : List ℕ) → Keeps s0 s1 → Keeps s1 s2 → IsConfig s0.arities d → IsCond s0 left.0 → IsCond s0 cond.0
+    → ((f g : List ℕ → Bool) → Denotes s1 left.0 f → Denotes s1 cond.0 g → Denotes s2 rest.0 (λ c. f c && not (g c)))
+    → s2.has rest.0 d ≡ (s0.has left.0 d && not (s0.has cond.0 d))
+rest-has s0 s1 s2 left cond rest d k1 k2 is own_left own_cond leaves =
+    (leaves _ _ (Denotes-Keeps k1 (Denotes-self s0 left.0 own_left)) (Denotes-Keeps k1 (Denotes-self s0 cond.0 own_cond))).at d (IsConfig-Keeps (Keeps-trans k1 k2) is)
 
 -- those of the condition have the list
 pub part-has : (s0 s1 s3 : Sets) (left cond part : Cond) (d : List ℕ) → Keeps s0 s1 → Keeps s1 s3 → IsConfig s0.arities d → IsCond s0 left.0 → IsCond s0 cond.0 → IsCond s1 part.0

@@ -106,8 +106,7 @@ fn note_list<C: Conditions>(
         return Ok(left);
     };
     let part = conds.apply_and(left, cond)?;
-    let others = conds.negate(cond)?;
-    let rest = conds.apply_and(left, others)?;
+    let rest = conds.apply_without(left, cond)?;
     let Some(list) = child_at(children, place) else {
         return Ok(rest);
     };
