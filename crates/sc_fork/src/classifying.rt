@@ -45,8 +45,7 @@ pub(crate) fn classify<C: Conditions>(
     ensures keeps { Keeps (C.sets conds.old) (C.sets conds.new) }
 {
     let types = typedefs(conds, source, parent, at)?;
-    let others = conds.negate(types)?;
-    let variables = conds.apply_and(parent.cond, others)?;
+    let variables = conds.apply_without(parent.cond, types)?;
     let mut pieces = Vec::new(alloc);
     add_kind(
         alloc,
