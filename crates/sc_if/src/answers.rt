@@ -1,5 +1,5 @@
 //! What the line of an `#if` comes to, by condition.
-ghost use Rattle.std.specs.Prelude.{◌≡◌, ℕ, ◌&&◌, ◌||◌, not, List, All, map, IfOk, IfErr};
+ghost use Rattle.std.specs.Prelude.{◌≡◌, ℕ, ◌&&◌, ◌||◌, List, All, map, IfOk, IfErr};
 ghost use Rattle.std.specs.List.{list_any};
 ghost use Rattle.sc_base.specs.Seen.{IsHeld};
 ghost use Rattle.sc_guarded.specs.Items.{items_at};
@@ -37,7 +37,7 @@ pub(crate) fn answers<C: Conditions>(
     ensures keeps { Keeps (C.sets conds.old) (C.sets conds.new) }
 {
     let left_over = having_defined(conds, names, list, live)?;
-    let rest = without(conds, live, left_over)?;
+    let rest = conds.apply_without(live, left_over)?;
     let readings = read_line(alloc, conds, names, list, rest, limit, standard)?;
     let mut answers = answers_to(alloc, readings)?;
     if conds.is_never(left_over) {
@@ -45,23 +45,6 @@ pub(crate) fn answers<C: Conditions>(
     }
     answers.push((left_over, Err(Cause::DefinedFromMacro)))?;
     Ok(answers)
-}
-
-/// The configurations of a condition that another has not.
-#[tactic(auto, using(sc_model::proofs::SetLemmas::conditions))]
-fn without<C: Conditions>(conds: &mut C, cond: Cond, less: Cond) -> Result<Cond, OutOfMemory>
-    requires cond_own { IsCond (C.sets conds.old) cond.0 }
-    requires less_own { IsCond (C.sets conds.old) less.0 }
-    ensures own { IfOk result (λ rest. IsCond (C.sets conds.new) rest.0) }
-    ensures meaning { IfOk result (λ rest. (c : List ℕ) → IsConfig (C.sets conds.old).arities c → (C.sets conds.new).has rest.0 c
-        ≡ ((C.sets conds.old).has cond.0 c && not ((C.sets conds.old).has less.0 c))) }
-
-    // at every outcome
-    ensures keeps { Keeps (C.sets conds.old) (C.sets conds.new) }
-{
-    let others = conds.negate(less)?;
-    let rest = conds.apply_and(cond, others)?;
-    Ok(rest)
 }
 
 /// The configurations in which a `defined` is left over.

@@ -237,8 +237,7 @@ impl Readings {
         // at every outcome
         ensures keeps { Keeps (C.sets conds.old) (C.sets conds.new) }
     {
-        let others = conds.negate(having)?;
-        let lacking = conds.apply_and(cond, others)?;
+        let lacking = conds.apply_without(cond, item)?;
         let after = before.copy()?.after(symbol)?;
         self.left.push((lacking, Some(before)))?;
         self.go_on(conds, having, after)

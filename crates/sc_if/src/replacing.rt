@@ -210,8 +210,7 @@ fn put_number<C: Conditions>(
     ensures keeps { Keeps (C.sets conds.old) (C.sets conds.new) }
 {
     let with = conds.apply_and(live, defined)?;
-    let undefined = conds.negate(defined)?;
-    let without = conds.apply_and(live, undefined)?;
+    let without = conds.apply_without(live, defined)?;
     push(conds, list, with, number(token, digits.one))?;
     push(conds, list, without, number(token, digits.zero))?;
     Ok(())

@@ -7,30 +7,29 @@ use Rattle.sc_if.proofs.DifferentReplacing.{number-adds}
 use Rattle.sc_if.proofs.replacing.put_number.Goals as goal
 
 pub returns-in_err-push-2-clause-keeps : goal.returns-in_err-push-2-clause-keeps
-returns-in_err-push-2-clause-keeps g c = Keeps-trans c.apply_and.ensures.keeps (Keeps-trans c.negate.ensures.keeps c.apply_and-2.ensures.keeps)
+returns-in_err-push-2-clause-keeps g c = Keeps-trans c.apply_and.ensures.keeps c.apply_without.ensures.keeps
 
 pub returns-clause-keeps : goal.returns-clause-keeps
-returns-clause-keeps g c = Keeps-trans c.apply_and.ensures.keeps (Keeps-trans c.negate.ensures.keeps c.apply_and-2.ensures.keeps)
+returns-clause-keeps g c = Keeps-trans c.apply_and.ensures.keeps c.apply_without.ensures.keeps
 
 pub returns-clause-at : goal.returns-clause-at
 returns-clause-at g c = λ x listed.
     let old = g.C.Conditions.sets c.args.conds.now in
     let one = c.apply_and.ensures.keeps in
-    let two = c.negate.ensures.keeps in
-    let three = c.apply_and-2.ensures.keeps in
-    let keeps = Keeps-trans one (Keeps-trans two three) in
+    let two = c.apply_without.ensures.keeps in
+    let keeps = Keeps-trans one two in
     let now = IsConfig-Keeps keeps listed in
     let live = Denotes-self old c.args.live.0 c.requires.live_own in
     let defined = Denotes-self old c.args.defined.0 c.requires.defined_own in
-    let yes = Denotes-Keeps (Keeps-trans two three) (c.in_ok-with.ensures.meaning _ _ live defined) in
-    let no = c.in_ok-without.ensures.meaning _ _ (Denotes-Keeps (Keeps-trans one two) live) (c.in_ok-undefined.ensures.meaning _ (Denotes-Keeps one defined)) in
+    let yes = Denotes-Keeps two (c.in_ok-with.ensures.meaning _ _ live defined) in
+    let no = c.in_ok-without.ensures.meaning _ _ (Denotes-Keeps one live) (Denotes-Keeps one defined) in
     both-added c.args.live c.args.defined c.in_ok-with.with c.in_ok-without.without c.args.digits.one c.args.digits.zero c.args.token c.number.result c.number-2.result c.args.list.now c.push.new.list c.push-2.new.list x
     keeps c.requires.list listed (yes.at x now) (no.at x now)
     c.number.ensures c.number-2.ensures (c.in_ok-push.ensures.at x now) (c.in_ok-push-2.ensures.at x now)
 
 pub returns-clause-list : goal.returns-clause-list
 returns-clause-list g c = λ names digits was.
-    let keeps = Keeps-trans c.apply_and.ensures.keeps (Keeps-trans c.negate.ensures.keeps c.apply_and-2.ensures.keeps) in
+    let keeps = Keeps-trans c.apply_and.ensures.keeps c.apply_without.ensures.keeps in
     let held = number-held c.args.token digits in
     c.in_ok-push-2.ensures.list names (subst (IsHeld names) (sym c.number-2.ensures) held.1)
     (c.in_ok-push.ensures.list names (subst (IsHeld names) (sym c.number.ensures) held.0) (IsHeldList-Keeps keeps was))
@@ -44,15 +43,14 @@ pub returns-clause-alike : goal.returns-clause-alike
 returns-clause-alike g c = λ x y p q live_alike defined_alike list_alike.
     let old = g.C.Conditions.sets c.args.conds.now in
     let one = c.apply_and.ensures.keeps in
-    let two = c.negate.ensures.keeps in
-    let three = c.apply_and-2.ensures.keeps in
-    let keeps = Keeps-trans one (Keeps-trans two three) in
+    let two = c.apply_without.ensures.keeps in
+    let keeps = Keeps-trans one two in
     let here = IsConfig-Keeps keeps p in
     let there = IsConfig-Keeps keeps q in
     let live = Denotes-self old c.args.live.0 c.requires.live_own in
     let defined = Denotes-self old c.args.defined.0 c.requires.defined_own in
-    let yes = Denotes-Keeps (Keeps-trans two three) (c.in_ok-with.ensures.meaning _ _ live defined) in
-    let no = c.in_ok-without.ensures.meaning _ _ (Denotes-Keeps (Keeps-trans one two) live) (c.in_ok-undefined.ensures.meaning _ (Denotes-Keeps one defined)) in
+    let yes = Denotes-Keeps two (c.in_ok-with.ensures.meaning _ _ live defined) in
+    let no = c.in_ok-without.ensures.meaning _ _ (Denotes-Keeps one live) (Denotes-Keeps one defined) in
     c.in_ok-push-2.ensures.alike x y (no.at x here ∙ (both-same live_alike (λ is. ap not (defined_alike is)) ∙ sym (no.at y there)))
     (c.in_ok-push.ensures.alike x y (yes.at x here ∙ (both-same live_alike defined_alike ∙ sym (yes.at y there))) (AreAlike-Keeps keeps p q c.args.list.now c.requires.list list_alike))
 
