@@ -138,9 +138,8 @@ impl Walk {
         // at every outcome
         ensures keeps { Keeps (C.sets conds.old) (C.sets conds.new) }
     {
-        let others = conds.negate(fault.cond)?;
-        let live = conds.apply_and(self.prepared.live, others)?;
-        let acting = conds.apply_and(self.acting, others)?;
+        let live = conds.apply_without(self.prepared.live, fault.cond)?;
+        let acting = conds.apply_without(self.acting, fault.cond)?;
         self.prepared.faults.push(fault)?;
         self.prepared.live = live;
         self.acting = acting;

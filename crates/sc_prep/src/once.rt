@@ -157,8 +157,7 @@ fn unless_marked<C: Conditions>(
 {
     files.one_to_one();
     if marked.file.0 == file.0 {
-        let others = conds.negate(marked.cond)?;
-        let rest = conds.apply_and(cond, others)?;
+        let rest = conds.apply_without(cond, marked.cond)?;
         return Ok(rest);
     }
     Ok(cond)

@@ -71,8 +71,7 @@ impl OpenRuns {
         if self.read.len() == 0 {
             return Ok(());
         }
-        let others = conds.negate(acting)?;
-        let going = conds.apply_and(live, others)?;
+        let going = conds.apply_without(live, acting)?;
         if conds.is_never(going) {
             self.read = Guarded::new(alloc)?;
             return Ok(());
@@ -137,8 +136,7 @@ fn taken<C: Conditions>(
             Ok(left)
         }
         None => {
-            let others = conds.negate(cond)?;
-            let fewer = conds.apply_and(left, others)?;
+            let fewer = conds.apply_without(left, cond)?;
             Ok(fewer)
         }
     }

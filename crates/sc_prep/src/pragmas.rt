@@ -7,7 +7,7 @@ ghost use Rattle.sc_model.specs.Sets.{Denotes, IsCond, Keeps};
 ghost use Rattle.sc_prep.specs.Pragmas.{BeginsPragma, EndsPragmas, HasNoPragma, MovesPragmas, OwnsPragmas, PutsOutside, ReadsPragma, no_operator, read_behind};
 
 use crate::closing::faults_within;
-use crate::settling::{hold, without, without_faults};
+use crate::settling::{hold, without_faults};
 use sc_base::{Cause, Cond, Fault, Kind, Names, OutOfMemory, Place, Token, is_same};
 use sc_guarded::Guarded;
 use sc_presence::Conditions;
@@ -160,7 +160,7 @@ impl Pragmas {
         if conds.is_never(reading) {
             return Ok(cond);
         }
-        let free = without(conds, cond, reading)?;
+        let free = conds.apply_without(cond, reading)?;
         self.pass(alloc, conds, names, reading, token)?;
         Ok(free)
     }
@@ -275,7 +275,7 @@ fn part<C: Conditions>(
 {
     let next = if is_next { reading } else { conds.never() };
     let passing = conds.apply_and(cond, next)?;
-    let others = without(conds, cond, reading)?;
+    let others = conds.apply_without(cond, reading)?;
     Ok(Parted { passing, others })
 }
 

@@ -1,5 +1,5 @@
 //! What is put out of runs that have not come to their ends yet.
-ghost use Rattle.std.specs.Prelude.{◌≡◌, ℕ, ◌&&◌, ◌++◌, List, All, Ok, [], not, true, false, IfErr, IfOk, OnOk, length};
+ghost use Rattle.std.specs.Prelude.{◌≡◌, ℕ, ◌&&◌, ◌++◌, List, All, Ok, [], true, false, IfErr, IfOk, OnOk, length};
 ghost use Rattle.c11_directives.specs.Footprints.{NameHas};
 ghost use Rattle.sc_model.specs.Growth.{Extends};
 ghost use Rattle.sc_model.specs.Sets.{IsCond, Denotes, Keeps};
@@ -181,7 +181,7 @@ impl Walk {
         ensures keeps { Keeps (C.sets conds.old) (C.sets conds.new) }
     {
         let free = without_faults(conds, asked, &settled.held)?;
-        let others = without(conds, live, asked)?;
+        let others = conds.apply_without(live, asked)?;
         let left = within(alloc, conds, &self.runs.gathered, others)?;
         let list = &mut self.prepared.list;
         let pragmas = &mut self.runs.pragmas;
@@ -215,22 +215,6 @@ pub fn hold(held: &mut Vec<Fault>, more: &[Fault]) -> Result<(), OutOfMemory>
     Ok(())
 }
 
-/// The configurations of `all` that are none of `part`.
-#[tactic(auto, using(sc_model::proofs::SetLemmas::conditions))]
-pub fn without<C: Conditions>(conds: &mut C, all: Cond, part: Cond) -> Result<Cond, OutOfMemory>
-    requires all { IsCond (C.sets conds.old) all.0 }
-    requires part { IsCond (C.sets conds.old) part.0 }
-    ensures without { IfOk result (λ left. Denotes (C.sets conds.new) left.0
-        (λ c. (C.sets conds.old).has all.0 c && not ((C.sets conds.old).has part.0 c))) }
-
-    // at every outcome
-    ensures keeps { Keeps (C.sets conds.old) (C.sets conds.new) }
-{
-    let others = conds.negate(part)?;
-    let left = conds.apply_and(all, others)?;
-    Ok(left)
-}
-
 /// The configurations of `all` that have none of the faults.
 #[tactic(auto, using(sc_model::proofs::SetLemmas::conditions))]
 pub fn without_faults<C: Conditions>(
@@ -248,8 +232,7 @@ pub fn without_faults<C: Conditions>(
 {
     let mut left = all;
     for fault in faults {
-        let others = conds.negate(fault.cond)?;
-        left = conds.apply_and(left, others)?;
+        left = conds.apply_without(left, fault.cond)?;
     }
     Ok(left)
 }

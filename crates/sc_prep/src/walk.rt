@@ -97,8 +97,7 @@ impl Walk {
         ensures runs { OnOk result (self.new.runs ≡ self.old.runs) }
         ensures keeps { Keeps (C.sets conds.old) (C.sets conds.new) }
     {
-        let others = conds.negate(test)?;
-        let untaken = conds.apply_and(self.group, others)?;
+        let untaken = conds.apply_without(self.group, test)?;
         let group = conds.apply_and(self.group, test)?;
         let acting = conds.apply_and(group, self.prepared.live)?;
         self.sections.push(Section {
@@ -130,8 +129,7 @@ impl Walk {
         let Some(section) = self.sections.pop() else {
             return Ok(());
         };
-        let others = conds.negate(test)?;
-        let untaken = conds.apply_and(section.untaken, others)?;
+        let untaken = conds.apply_without(section.untaken, test)?;
         let group = conds.apply_and(section.untaken, test)?;
         let acting = conds.apply_and(group, self.prepared.live)?;
         self.sections.push_reserved(Section {

@@ -1,16 +1,13 @@
-use Rattle.std.proofs.Common.{not}
-use Rattle.sc_prep.proofs.Facts.{Denotes-Keeps, Denotes-self}
+use Rattle.sc_prep.proofs.Facts.{Denotes-self}
 use Rattle.sc_prep.proofs.OnceLemmas.{unless-other, unless-same}
 use Rattle.sc_prep.proofs.once.unless_marked.Goals as goal
 
 pub returns-then-marked-file-clause-unless : goal.returns-then-marked-file-clause-unless
 returns-then-marked-file-clause-unless g c =
     let old = g.C.Conditions.sets c.args.conds.now in
-    let marked = c.args.marked.cond.0 in
     let cond = c.args.cond.0 in
-    unless-same old (g.C.Conditions.sets c.apply_and.new.self) c.args.files.now c.args.marked c.args.file.0 cond c.in_ok-rest.rest.0 c.if-marked-file.true
-    (c.in_ok-rest.ensures.meaning (old.has cond) (λ config. not (old.has marked config)) (Denotes-Keeps c.in_ok-others.ensures.keeps (Denotes-self old cond c.requires.own))
-    (c.in_ok-others.ensures.meaning (old.has marked) (Denotes-self old marked c.requires.marked)))
+    unless-same old (g.C.Conditions.sets c.apply_without.new.self) c.args.files.now c.args.marked c.args.file.0 cond c.in_ok-rest.rest.0 c.if-marked-file.true
+    (c.in_ok-rest.ensures.meaning _ _ (Denotes-self old cond c.requires.own) (Denotes-self old c.args.marked.cond.0 c.requires.marked))
 
 pub returns-clause-unless : goal.returns-clause-unless
 returns-clause-unless g c =

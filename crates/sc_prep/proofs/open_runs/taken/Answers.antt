@@ -1,5 +1,5 @@
 use Rattle.std.proofs.Common.{List, [], ◌∷◌, ◌++◌, Option, ap, subst, sym}
-use Rattle.sc_prep.proofs.Facts.{Denotes-Keeps, Denotes-self, Keeps-trans}
+use Rattle.sc_prep.proofs.Facts.{Denotes-Keeps, Denotes-self}
 use Rattle.sc_prep.proofs.ReadMoves.{takes-end, takes-token}
 use Rattle.sc_prep.proofs.Terms.{Cond, TakesOut, Token}
 use Rattle.sc_prep.proofs.open_runs.taken.Goals as goal
@@ -16,7 +16,6 @@ returns-in_ok-push-in-Some-clause-takes g c = λ first all front under before ow
 pub returns-in_ok-fewer-in-None-clause-takes : goal.returns-in_ok-fewer-in-None-clause-takes
 returns-in_ok-fewer-in-None-clause-takes g c = λ first all front under before own was.
     let old = g.C.Conditions.sets c.args.conds.now in
-    let keeps = c.in_ok-others-in-None.ensures.keeps in
-    let others = c.in_ok-others-in-None.ensures.meaning (first.has c.args.cond.0) (Denotes-Keeps before (Denotes-self first c.args.cond.0 own)) in
-    let fewer = c.in_ok-fewer-in-None.ensures.meaning (old.has c.args.left.0) _ (Denotes-Keeps keeps (Denotes-self old c.args.left.0 c.requires.left)) others in
-    takes-end before (Keeps-trans keeps c.in_ok-fewer-in-None.ensures.keeps) was front c.args.cond c.in_ok-fewer-in-None.fewer.0 (ap (λ (o : Option Token). front ++ (c.args.cond, o) ∷ []) c.in-None.is) fewer
+    let x = c.in_ok-fewer-in-None in
+    let told = x.ensures.meaning _ _ (Denotes-self old c.args.left.0 c.requires.left) (Denotes-Keeps before (Denotes-self first c.args.cond.0 own)) in
+    takes-end before x.ensures.keeps was front c.args.cond x.fewer.0 (ap (λ (o : Option Token). front ++ (c.args.cond, o) ∷ []) c.in-None.is) told

@@ -18,3 +18,10 @@ returns-clause-passing g c =
       | else-is_next w ↦ denotes-as (λ d. old.has cond d && false) (λ d. old.has cond d && (c.args.is_next && old.has reading d)) (λ d listed. ap (λ b. old.has cond d && (b && old.has reading d)) (sym w.if-is_next.false))
           (c.in_ok-passing.ensures.meaning (old.has cond) (λ _. false) own (subst (λ (n : Cond). Denotes old n.0 (λ _. false)) (sym w.next-is) w.never-next.ensures.meaning))
     ])
+
+pub returns-clause-others : goal.returns-clause-others
+returns-clause-others g c =
+    let old = g.C.Conditions.sets c.args.conds.now in
+    let keeps = c.in_ok-passing.ensures.keeps in
+    c.in_ok-others.ensures.meaning _ _ (Denotes-Keeps keeps (Denotes-self old c.args.cond.0 c.requires.cond))
+    (Denotes-Keeps keeps (Denotes-self old c.args.reading.0 c.requires.reading))

@@ -17,15 +17,11 @@ loop-fault-preserved g c =
     let faults = c.args.faults.now in
     let i = c.loop-fault.fault-index in
     let was = c.loop-fault.invariant in
-    let k1 = c.in_ok-others.ensures.keeps in
-    let k2 = c.in_ok-left.ensures.keeps in
     record {
-      keeps = Keeps-trans was.keeps (Keeps-trans k1 k2);
+      keeps = Keeps-trans was.keeps c.in_ok-left.ensures.keeps;
       without = without-one (first.has c.args.all.0) _ (faults_at first (take i faults)) (faults_at first (take (i + 1) faults)) _
           (λ config. ap (λ xs. faults_at first xs config) (take_more faults i _ c.loop-fault-test.true) ∙ faults_at-append first (take i faults) _ config)
-          (c.in_ok-left.ensures.meaning _ _ (Denotes-Keeps k1 was.without) (c.in_ok-others.ensures.meaning _ (Denotes-Keeps was.keeps
-          (Denotes-self first _ (All-get_or (λ (f : Fault). IsCond first f.cond.0) faults i _ c.loop-fault-test.true c.requires.faults)))));
+          (c.in_ok-left.ensures.meaning _ _ was.without
+          (Denotes-Keeps was.keeps
+          (Denotes-self first _ (All-get_or (λ (f : Fault). IsCond first f.cond.0) faults i _ c.loop-fault-test.true c.requires.faults))));
     }
-
-pub returns-in_err-left-clause-keeps : goal.returns-in_err-left-clause-keeps
-returns-in_err-left-clause-keeps g c = Keeps-trans c.loop-fault.invariant.keeps (Keeps-trans c.in_ok-others.ensures.keeps c.in_err-left.ensures.keeps)

@@ -1,5 +1,5 @@
 use Rattle.std.proofs.Common.{◌∙◌, sym, subst}
-use Rattle.sc_prep.proofs.Facts.{Denotes-Keeps, Denotes-self, Keeps-trans}
+use Rattle.sc_prep.proofs.Facts.{Denotes-self}
 use Rattle.sc_prep.proofs.ReadMoves.{ends-all, ends-nothing, ends-some, no-items}
 use Rattle.sc_prep.proofs.Terms.{EndsRead}
 use Rattle.sc_prep.proofs.open_runs.OpenRuns.end.Goals as goal
@@ -11,21 +11,13 @@ returns-then-len-eq0-clause-ends g c =
 pub returns-then-is_never-clause-ends : goal.returns-then-is_never-clause-ends
 returns-then-is_never-clause-ends g c =
     let old = g.C.Conditions.sets c.args.conds.now in
-    let keeps = c.in_ok-others.ensures.keeps in
-    let others = c.in_ok-others.ensures.meaning (old.has c.args.acting.0) (Denotes-self old c.args.acting.0 c.requires.acting) in
-    let going = c.in_ok-going.ensures.meaning (old.has c.args.live.0) _ (Denotes-Keeps keeps (Denotes-self old c.args.live.0 c.requires.live)) others in
-    subst (EndsRead old c.args.self.now.read c.args.acting.0 c.args.live.0 (g.C.Conditions.sets c.apply_and.new.self)) (sym c.in_ok-self.ensures)
-    (ends-all (Keeps-trans keeps c.in_ok-going.ensures.keeps) c.args.self.now.read c.args.acting.0 c.args.live.0 c.in_ok-going.going.0 going (c.is_never.ensures.0 c.if-is_never.true))
+    let going = c.in_ok-going.ensures.meaning _ _ (Denotes-self old c.args.live.0 c.requires.live) (Denotes-self old c.args.acting.0 c.requires.acting) in
+    subst (EndsRead old c.args.self.now.read c.args.acting.0 c.args.live.0 (g.C.Conditions.sets c.apply_without.new.self)) (sym c.in_ok-self.ensures)
+    (ends-all c.in_ok-going.ensures.keeps c.args.self.now.read c.args.acting.0 c.args.live.0 c.in_ok-going.going.0 going
+    (c.is_never.ensures.0 c.if-is_never.true))
 
 pub returns-clause-ends : goal.returns-clause-ends
 returns-clause-ends g c =
     let old = g.C.Conditions.sets c.args.conds.now in
-    let keeps = Keeps-trans c.in_ok-others.ensures.keeps c.in_ok-going.ensures.keeps in
-    subst (EndsRead old c.args.self.now.read c.args.acting.0 c.args.live.0 (g.C.Conditions.sets c.apply_and.new.self)) (sym c.in_ok-push.ensures.ok)
-    (ends-some keeps c.args.self.now.read c.args.acting c.args.live.0 c.requires.own c.requires.acting)
-
-pub returns-in_err-self-clause-keeps : goal.returns-in_err-self-clause-keeps
-returns-in_err-self-clause-keeps g c = Keeps-trans c.in_ok-others.ensures.keeps c.in_ok-going.ensures.keeps
-
-pub returns-then-is_never-clause-keeps : goal.returns-then-is_never-clause-keeps
-returns-then-is_never-clause-keeps g c = Keeps-trans c.in_ok-others.ensures.keeps c.in_ok-going.ensures.keeps
+    subst (EndsRead old c.args.self.now.read c.args.acting.0 c.args.live.0 (g.C.Conditions.sets c.apply_without.new.self)) (sym c.in_ok-push.ensures.ok)
+    (ends-some c.in_ok-going.ensures.keeps c.args.self.now.read c.args.acting c.args.live.0 c.requires.own c.requires.acting)

@@ -22,7 +22,11 @@ pub returns-clause-reads : goal.returns-clause-reads
 returns-clause-reads g c =
     let old = g.C.Conditions.sets c.args.conds.now in
     let is = c.in_ok-reading.ensures.meaning (old.has c.args.cond.0) (old.has c.args.self.now.inside.0) (Denotes-self old _ c.requires.own) (Denotes-self old _ c.requires.owns.inside) in
-    reads-token c.args.names.now c.args.cond.0 c.args.token c.requires.own c.requires.owns c.in_ok-reading.ensures.keeps is c.in_ok-free.ensures.keeps c.in_ok-pass.ensures.keeps c.in_ok-free.ensures.without c.in_ok-pass.ensures.passes
+    let mid = g.C.Conditions.sets c.apply_and.new.self in
+    let keeps = c.in_ok-reading.ensures.keeps in
+    let free = c.in_ok-free.ensures.meaning _ _ (Denotes-self mid _ (keeps.own _ c.requires.own)) (Denotes-self mid _ c.in_ok-reading.ensures.own) in
+    reads-token c.args.names.now c.args.cond.0 c.args.token c.requires.own c.requires.owns keeps is
+    c.in_ok-free.ensures.keeps c.in_ok-pass.ensures.keeps free c.in_ok-pass.ensures.passes
 
 pub returns-clause-keeps : goal.returns-clause-keeps
 returns-clause-keeps g c = Keeps-trans c.in_ok-reading.ensures.keeps (Keeps-trans c.in_ok-free.ensures.keeps c.in_ok-pass.ensures.keeps)

@@ -1,4 +1,3 @@
-use Rattle.std.proofs.Common.{◌&&◌, not}
 use Rattle.sc_prep.proofs.Facts.{Denotes-Keeps, Denotes-self, Keeps-trans}
 use Rattle.sc_prep.proofs.WalkMoves.{owns-innermost, branches}
 use Rattle.sc_prep.proofs.walk.Walk.begin_branch.Goals as goal
@@ -8,18 +7,14 @@ returns-clause-moved g c = λ names t told.
     let old = g.C.Conditions.sets c.args.conds.now in
     let w = c.args.self.now in
     let section = c.in-Some.section in
-    let k1 = c.in_ok-others.ensures.keeps in
-    let k2 = Keeps-trans k1 c.in_ok-untaken.ensures.keeps in
-    let k3 = Keeps-trans k2 c.in_ok-group.ensures.keeps in
-    let k4 = Keeps-trans k3 c.in_ok-acting.ensures.keeps in
-    let inner = owns-innermost k4 w c.requires.owns c.pop.new.self.items section c.in-Some.ensures.items in
+    let k1 = c.in_ok-untaken.ensures.keeps in
+    let k2 = Keeps-trans k1 c.in_ok-group.ensures.keeps in
+    let k3 = Keeps-trans k2 c.in_ok-acting.ensures.keeps in
+    let inner = owns-innermost k3 w c.requires.owns c.pop.new.self.items section c.in-Some.ensures.items in
     let waiting = Denotes-self old section.untaken.0 inner.untaken in
-    let untaken = c.in_ok-untaken.ensures.meaning (old.has section.untaken.0) (λ config. not (t config)) (Denotes-Keeps k1 waiting) (c.in_ok-others.ensures.meaning t told) in
-    let taken = c.in_ok-group.ensures.meaning (old.has section.untaken.0) t (Denotes-Keeps k2 waiting) (Denotes-Keeps k2 told) in
-    let live = c.in_ok-acting.ensures.meaning (λ config. old.has section.untaken.0 config && t config) (old.has w.prepared.live.0) taken (Denotes-Keeps k3 (Denotes-self old w.prepared.live.0 c.requires.owns.prepared.live)) in
-    branches k4 w c.requires.owns c.pop.new.self.items section c.in-Some.ensures.items names t c.in_ok-group.group c.in_ok-untaken.untaken c.in_ok-acting.acting c.push_reserved.new.self
-    c.push_reserved.ensures.items (Denotes-Keeps c.in_ok-acting.ensures.keeps taken)
+    let untaken = c.in_ok-untaken.ensures.meaning (old.has section.untaken.0) t waiting told in
+    let taken = c.in_ok-group.ensures.meaning (old.has section.untaken.0) t (Denotes-Keeps k1 waiting) (Denotes-Keeps k1 told) in
+    let live = c.in_ok-acting.ensures.meaning _ _ taken (Denotes-Keeps k2 (Denotes-self old w.prepared.live.0 c.requires.owns.prepared.live)) in
+    branches k3 w c.requires.owns c.pop.new.self.items section c.in-Some.ensures.items names t c.in_ok-group.group c.in_ok-untaken.untaken
+    c.in_ok-acting.acting c.push_reserved.new.self c.push_reserved.ensures.items (Denotes-Keeps c.in_ok-acting.ensures.keeps taken)
     (Denotes-Keeps (Keeps-trans c.in_ok-group.ensures.keeps c.in_ok-acting.ensures.keeps) untaken) live
-
-pub returns-in_err-acting-clause-keeps : goal.returns-in_err-acting-clause-keeps
-returns-in_err-acting-clause-keeps g c = Keeps-trans (Keeps-trans c.in_ok-others.ensures.keeps c.in_ok-untaken.ensures.keeps) (Keeps-trans c.in_ok-group.ensures.keeps c.in_err-acting.ensures.keeps)

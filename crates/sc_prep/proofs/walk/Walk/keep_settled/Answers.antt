@@ -1,6 +1,6 @@
 use Rattle.std.proofs.Common.{◌&&◌, ◌∙◌, ◌++◌, not, List, All, ap, refl, subst, sym}
 use Rattle.sc_base.specs.declared.fault.Fault.{Fault}
-use Rattle.sc_prep.proofs.Facts.{Denotes-Keeps, IsConfig-Keeps, Keeps-trans}
+use Rattle.sc_prep.proofs.Facts.{Denotes-Keeps, Denotes-self, IsConfig-Keeps, Keeps-trans}
 use Rattle.sc_prep.proofs.PragmaMoves.{owns-pragmas}
 use Rattle.sc_prep.proofs.RunLemmas.{within-as, within-later}
 use Rattle.sc_prep.proofs.Terms.{Denotes, IsCond, has_none}
@@ -27,7 +27,7 @@ pub returns-clause-puts : goal.returns-clause-puts
 returns-clause-puts g c =
     let old = g.C.Conditions.sets c.args.conds.now in
     let s1 = g.C.Conditions.sets c.without_faults.new.conds in
-    let s2 = g.C.Conditions.sets c.without.new.conds in
+    let s2 = g.C.Conditions.sets c.apply_without.new.self in
     let live = c.args.live.0 in
     let asked = c.args.asked.0 in
     let k1 = c.in_ok-free.ensures.keeps in
@@ -35,6 +35,8 @@ returns-clause-puts g c =
     let k3 = c.in_ok-left.ensures.keeps in
     let k12 = Keeps-trans k1 k2 in
     let free = subst (λ (fs : List Fault). Denotes s1 c.in_ok-free.free.0 (λ config. old.has asked config && has_none old fs config)) c.deref.ensures.value c.in_ok-free.ensures.without in
+    let others = c.in_ok-others.ensures.meaning _ _ (Denotes-Keeps k1 (Denotes-self old live c.requires.live))
+    (Denotes-Keeps k1 (Denotes-self old asked c.requires.asked)) in
     record {
       same = refl;
       middle = g.C.Conditions.sets c.within.new.conds;
@@ -47,9 +49,7 @@ returns-clause-puts g c =
       is_free = Denotes-Keeps (Keeps-trans k2 k3) free;
       puts = c.in_ok-put_outside.ensures.puts;
       stays = within-later (Keeps-trans k12 k3) c.in_ok-put_outside.ensures.keeps (within-as (s2.has c.in_ok-others.others.0) (λ config. old.has live config && not (old.has asked config)) k12 c.requires.own
-          (λ config listed.
-          c.in_ok-others.ensures.without.at config (IsConfig-Keeps k12 listed)
-          ∙ (λ i. k1.at live config c.requires.live listed i && not (k1.at asked config c.requires.asked listed i))) c.in_ok-left.ensures.within);
+          (λ config listed. others.at config (IsConfig-Keeps k12 listed)) c.in_ok-left.ensures.within);
     }
 
 pub returns-in_err-others-clause-keeps : goal.returns-in_err-others-clause-keeps

@@ -7,10 +7,9 @@ pub returns-clause-refuses : goal.returns-clause-refuses
 returns-clause-refuses g c =
     let old = g.C.Conditions.sets c.args.conds.now in
     let w = c.args.self.now in
-    let k1 = c.in_ok-others.ensures.keeps in
-    let k2 = Keeps-trans k1 c.in_ok-live.ensures.keeps in
-    let k3 = Keeps-trans k2 c.in_ok-acting.ensures.keeps in
-    let others = c.in_ok-others.ensures.meaning (old.has c.args.fault.cond.0) (Denotes-self old c.args.fault.cond.0 c.requires.own) in
-    let live = c.in_ok-live.ensures.meaning (old.has w.prepared.live.0) _ (Denotes-Keeps k1 (Denotes-self old w.prepared.live.0 c.requires.live)) others in
-    let acting = c.in_ok-acting.ensures.meaning (old.has w.acting.0) _ (Denotes-Keeps k2 (Denotes-self old w.acting.0 c.requires.acting)) (Denotes-Keeps c.in_ok-live.ensures.keeps others) in
-    refuses-one k3 w _ c.args.fault refl c.in_ok-push.ensures.items (Denotes-Keeps c.in_ok-acting.ensures.keeps live) acting
+    let k1 = c.in_ok-live.ensures.keeps in
+    let k2 = c.in_ok-acting.ensures.keeps in
+    let refused = Denotes-self old c.args.fault.cond.0 c.requires.own in
+    let live = c.in_ok-live.ensures.meaning _ _ (Denotes-self old w.prepared.live.0 c.requires.live) refused in
+    let acting = c.in_ok-acting.ensures.meaning _ _ (Denotes-Keeps k1 (Denotes-self old w.acting.0 c.requires.acting)) (Denotes-Keeps k1 refused) in
+    refuses-one (Keeps-trans k1 k2) w _ c.args.fault refl c.in_ok-push.ensures.items (Denotes-Keeps k2 live) acting
