@@ -398,8 +398,8 @@ module _ {files names more : List (List ℕ)} {old mid : Sets} {w v : Walk} (kee
       let a = first.simulates.at c m listed simulates in
       subst (Simulates mid more files v c) a.done a.simulates
 
-  pub settled-closes : {last : List (List ℕ)} {new : Sets} {next : Walk} {does : List ℕ → Machine → Machine → Type 0} → LineStage files more mid v [] last new next does → LineStage files names old w [] last new next does
-  settled-closes {next = next} second = record {
+  pub settled-closes : {line : List base_token.Token} {last : List (List ℕ)} {new : Sets} {next : Walk} {does : List ℕ → Machine → Machine → Type 0} → LineStage files more mid v line last new next does → LineStage files names old w line last new next does
+  settled-closes {line} {next = next} second = record {
     simulates = record {
       owns = second.simulates.owns;
       table = second.simulates.table;
@@ -408,7 +408,7 @@ module _ {files names more : List (List ℕ)} {old mid : Sets} {w v : Walk} (kee
     held = second.held;
     plain = λ each was. second.plain
         (record { each = λ c now. let listed = IsConfig-kept keeps now in let at = each.each c listed in (at.0, same-machine c at.0 listed at.1, tt, at.3) }) (first.plain each was);
-    gathers = gathers-then [] [] w v next first.gathers second.gathers;
+    gathers = gathers-then [] line w v next first.gathers second.gathers;
   }
 
   -- where closing them stops

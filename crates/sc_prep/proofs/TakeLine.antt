@@ -1,10 +1,11 @@
 -- What a line does at each configuration, once the runs that it ends are closed.
-use Rattle.std.proofs.Common.{◌≡◌, ℕ, Bool, true, false, List, All, Option, Some, None, Result, Ok, refl, sym, ap, ◌∙◌, subst, if◌then◌else◌, IfErr}
+use Rattle.std.proofs.Common.{◌≡◌, ℕ, Bool, true, false, List, All, length, Option, Some, None, Result, Ok, refl, sym, ap, ◌∙◌, subst, if◌then◌else◌, IfErr}
 use Rattle.c11_directives.specs.declared.directive.Directive.TheVariants as directive
 use Rattle.sc_prep.proofs.BetweenRuns.{closing-between}
 use Rattle.sc_prep.proofs.Facts.{IfErr-weaker, IsConfig-Keeps, directive-files}
-use Rattle.sc_prep.proofs.LineSteps.{line-grown, plain-is}
-use Rattle.sc_prep.proofs.Terms.{AllPass, Carried, Closed, Conditional, Context, Decided, Directive, Extends, IsBetweenRuns, IsHeld, IsHeldWalk, IsPlaced, IsTable, Keeps, Machine, OutOfMemory, Sets, Simulates, SimulatesOneOf, SimulatesStep, Standard, StaysHeld, StepsBetweenRuns, Stop, StopsBy, Takes, Token, Walk, any_token, asks_by, carries, closes, conditional_in, directive_at, ends_run, is_barrier, is_plain, is_said, option_map, plain_by, seen_line, step, step_by, takes}
+use Rattle.sc_prep.proofs.Grown.{placed-grown}
+use Rattle.sc_prep.proofs.LineSteps.{directive-grown, line-grown, plain-is}
+use Rattle.sc_prep.proofs.Terms.{AllPass, Carried, Closed, Conditional, Context, Decided, Directive, Extends, GathersFrom, IsBetweenRuns, IsHeld, IsHeldWalk, IsPlaced, IsStored, IsTable, Keeps, LineStage, Machine, OutOfMemory, Sets, Simulates, SimulatesOneOf, SimulatesStep, Standard, StaysHeld, StepsBetweenRuns, Stop, StopsBy, Takes, Token, Walk, any_token, asks_by, carries, closes, conditional_in, directive_at, ends_run, is_barrier, is_plain, is_said, option_map, plain_by, seen_line, step, step_by, takes}
 
 -- no memory is a reason to stop
 pub memory-stops : {A : Type 0} (arities : List ℕ) (limit : ℕ) (r : Result A Stop) → IfErr r (λ s. s ≡ OutOfMemory) → IfErr r (StopsBy arities limit)
@@ -60,7 +61,7 @@ takes-decided standard {names} files line c at x decides = record {
 }
 
 -- a line that is no conditional directive and ends no run
-pub takes-plain : (standard : Standard) {names : List (List ℕ)} (files : List (List ℕ)) {old new : Sets} {w next : Walk} (line : List Token) (d : Option Directive) → d ≡ directive_at standard names line → ends_run d ≡ false → conditional_in d ≡ None
+takes-plain : (standard : Standard) {names : List (List ℕ)} (files : List (List ℕ)) {old new : Sets} {w next : Walk} (line : List Token) (d : Option Directive) → d ≡ directive_at standard names line → ends_run d ≡ false → conditional_in d ≡ None
     → IsTable old names w.table → SimulatesStep names old w new next (λ paths config m. plain_by m (seen_line standard names paths line) d)
     → (x : Context) → SimulatesOneOf files names old w names new next (λ config m n. Takes x m (seen_line standard names files line) n)
 takes-plain standard {names} files line d at mild none is moved x =
@@ -76,6 +77,21 @@ takes-plain standard {names} files line d at mild none is moved x =
             (record { asked = λ asks. let both = sym (ap (asks_by m) named) ∙ asks in absurd (cc); not_asked = λ _. refl }));
         simulates = moved.at files config m listed is simulates;
       };
+    }
+
+-- the same, where the table of texts grew before it
+pub plain-stage : (standard : Standard) {names more : List (List ℕ)} (files : List (List ℕ)) {s : Sets} {w next : Walk} (line : List Token) (d : Option Directive) → d ≡ directive_at standard names line → ends_run d ≡ false → conditional_in d ≡ None
+    → Extends names more → All (IsPlaced names (length files)) line → IsStored s more (length files) w → SimulatesStep more s w s next (λ paths config m. plain_by m (seen_line standard more paths line) d)
+    → StaysHeld more line w next → GathersFrom line w next → (x : Context) → LineStage files more s w line more s next (λ config m n. Takes x m (seen_line standard names files line) n)
+plain-stage standard {names} {more} files {s} {w} {next} line d at mild none grows placed stored moved stays gathers x =
+    let held : All (IsHeld names) line = λ k e h. (placed k e h).held in
+    let later : All (IsPlaced more (length files)) line = λ k e h. placed-grown grows (length files) _ (placed k e h) in
+    record {
+      simulates = subst (λ l. SimulatesOneOf files more s w more s next (λ config m n. Takes x m l n)) (line-grown files grows standard line held)
+          (takes-plain standard files line d (at ∙ sym (directive-grown standard grows line held)) mild none stored.table moved x);
+      held = stays (length files) any_token later stored.held;
+      plain = λ plain was. stays-plain more (length files) line w next stays later stored.held was;
+      gathers = gathers;
     }
 
 -- a directive that ends the runs, which were closed

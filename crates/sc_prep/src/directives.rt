@@ -114,7 +114,11 @@ impl Walk {
             Some(barrier) => {
                 self.barrier_line(alloc, conds, names, files, limit, standard, line, barrier)
             }
-            None => Ok(self.text_line(conds, line, directive)?),
+            None => {
+                let count = if directive.is_none() { line.len() } else { 0 };
+                self.settle_if_due(alloc, conds, names, files, limit, count)?;
+                Ok(self.text_line(conds, line, directive)?)
+            }
         }
     }
 

@@ -60,6 +60,32 @@ impl Walk {
         Err(Stop::OutOfMemory)
     }
 
+    /// Before so many tokens more are gathered, what was gathered settles where that is due. Where
+    /// more configurations than the limit differ in a name, it stays gathered until runs end.
+    #[tactic(auto, using(sc_model::proofs::SetLemmas::conditions))]
+    pub fn settle_if_due<C: Conditions>(
+        &mut self,
+        alloc: Global,
+        conds: &mut C,
+        names: &mut Names,
+        files: &Files,
+        limit: usize,
+        more: usize,
+    ) -> Result<(), OutOfMemory>
+        requires stored { IsStored (C.sets conds.old) names.old (length files.now) self.old }
+        ensures stays { OnOk result (LineStage files.now names.old (C.sets conds.old) self.old [] names.new (C.sets conds.new) self.new (λ config m n. n ≡ m)) }
+
+        // at every outcome
+        ensures keeps { Keeps (C.sets conds.old) (C.sets conds.new) }
+        ensures names { Extends names.old names.new }
+    {
+        let read = self.runs.read.len();
+        if is_due(read, more, self.runs.gathered.len()) {
+            self.settle_within(alloc, conds, names, files, limit)?;
+        }
+        Ok(())
+    }
+
     /// Stops where more configurations that act than the limit differ in a name of their runs.
     #[tactic(auto, using(sc_model::proofs::SetLemmas::conditions))]
     fn judge_runs<C: Conditions>(
@@ -191,6 +217,17 @@ impl Walk {
         append(&mut self.runs.gathered, &left)?;
         Ok(())
     }
+}
+
+/// Whether what was gathered is to settle before so many tokens more are read: each time that their
+/// number comes to a multiple of 4,096, or of a power of two in proportion to what is gathered, so
+/// that what waits is not looked at again for each line.
+fn is_due(read: usize, more: usize, gathered: usize) -> bool {
+    let mut step = 4096;
+    while step <= gathered / 2 {
+        step *= 2;
+    }
+    more >= step - read % step
 }
 
 /// The items of a list.
