@@ -14,6 +14,7 @@ use Rattle.sc_model.specs.Token.{Place, Token}
 use Rattle.sc_model.specs.declared.cause.Cause.TheVariants.{UnterminatedCall}
 use Rattle.sc_prep.proofs.ApartLemmas.{ended-tokens, gathers-ended}
 use Rattle.sc_prep.proofs.Facts.{All-append, All-cons, All-head, All-map, All-nil, All-tail, All-weaker, IsConfig-Keeps, IsConfig-kept, IsTable-Keeps, Keeps-trans, PlainToken, faults_at-Keeps, faults_at-append, items_at-Keeps, map-append, true≢false}
+use Rattle.sc_prep.proofs.LeftRuns.{left-all, left-as}
 use Rattle.sc_prep.proofs.Machine.{inert_closing}
 use Rattle.sc_prep.proofs.Plain.{text-plain}
 use Rattle.sc_prep.proofs.PragmaLaws.{carried, carries-out}
@@ -332,7 +333,7 @@ module _ (files names : List (List ℕ)) {old new : Sets} (w next : Walk) (store
                   (simulates-next [] (m.state.output ++ output) m.fault (ap (λ b. is_none m.fault && b) all ∙ and_true (is_none m.fault)) (ap (λ b. acts m && b) all ∙ and_true (acts m))
                   (ap (λ fs. option_to_list m.fault ++ fs) nothing ∙ append-nil (option_to_list m.fault))
                   (λ _. record {
-                    run = ap shown run-left;
+                    run = left-all (ap shown run-left);
                     awaited = no_operator;
                     awaits = at;
                     text = text-as (gathered-left true here) refl (held-left true here) (text-begins (put_out m.state output) [] (shown (items_at new next.prepared.list c)) refl put);
@@ -409,7 +410,7 @@ module _ (files names : List (List ℕ)) {old new : Sets} (w next : Walk) (store
                 (λ clean.
                 let was = simulates.text clean in
                 record {
-                  run = ap shown (ends.read.at c listed (simulates.prepared.live ∙ ap is_none clean) ∙ ap (λ b. if b then [] else run_at old w.runs.read c) out) ∙ was.run;
+                  run = left-as (ap shown (ends.read.at c listed (simulates.prepared.live ∙ ap is_none clean) ∙ ap (λ b. if b then [] else run_at old w.runs.read c) out)) was.run;
                   awaited = was.awaited;
                   awaits = subst (AwaitsAt new files next.runs.pragmas c) (ap (awaits was.awaited) unread) (awaits-now was.awaited was.awaits false out);
                   text = text-as (gathered-left false out) (put-now was.awaited was.awaits ∙ (ap (λ ts. shown (items_at old w.prepared.list c) ++ outside was.awaited ts) unread ∙ append-nil (shown (items_at old w.prepared.list c))))

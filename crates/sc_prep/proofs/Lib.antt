@@ -26,6 +26,7 @@ pub mod InFile
 pub mod IncludeLeads
 pub mod LeadMoves
 pub mod LeastCause
+pub mod LeftRuns
 pub mod LineFootprints
 pub mod LineNumbers
 pub mod LineSteps

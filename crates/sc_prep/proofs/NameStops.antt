@@ -1,10 +1,13 @@
 -- Where the expansion of what a walk has stops, each configuration's machine comes to a footprint.
 use Rattle.std.proofs.Common.{◌≡◌, ℕ, ◌&&◌, true, List, [], All, ap, map, sym, subst, ◌∙◌, if◌then◌else◌, is_none}
 use Rattle.sc_base.specs.declared.token.Token as base
+use Rattle.c11_macros.specs.Expansion.{IsWithin}
+use Rattle.sc_expand.proofs.PlainTables.{entry_names, within-table}
 use Rattle.sc_expand.specs.Footprints.{StopsAtName}
 use Rattle.sc_prep.proofs.ApartLemmas.{different}
 use Rattle.sc_prep.proofs.ExpressionMoves.{asked-at, right-none}
 use Rattle.sc_prep.proofs.Facts.{items_at-Keeps, macros_at-Keeps}
+use Rattle.sc_prep.proofs.LeftRuns.{left-has}
 use Rattle.sc_prep.proofs.NameFootprints.{name-as, name-footprints}
 use Rattle.sc_prep.proofs.Stopping.{stops-as}
 use Rattle.sc_prep.proofs.Terms.{AreDifferent, Comes, Cond, Denotes, IsCond, IsConfig, IsTable, Keeps, NameHas, Sets, Spot, StandApart, Stop, StopsAtPlace, Used, Walk, acts, any_machine, items_at, macros_at, place_alone, run_at, seen, tokens_in, tokens_read, unhidden}
@@ -22,8 +25,9 @@ run-stops {old} {s} names files keeps w own is text tokens at limit stop stops a
     let acting = sym simulates.acting ∙ here in
     let clean = right-none m.active m.fault acting in
     let defines = λ (name : List ℕ). macros_at-Keeps keeps is c name listed ∙ simulates.macros clean name in
-    let run = ap (map (seen names files)) (at c listed ∙ ap (λ b. if b then run_at old w.runs.read c else []) here) ∙ (simulates.text clean).run in
-    (acting, subst (λ run. NameHas m.state.macros run f) run (name-as defines has.1)))
+    let read = ap (map (seen names files)) (at c listed ∙ ap (λ b. if b then run_at old w.runs.read c else []) here) in
+    let within = subst (IsWithin (entry_names names w.table.entries.entries)) (λ i. λ name. defines name i) (within-table s names w.table c) in
+    (acting, left-has (entry_names names w.table.entries.entries) within (simulates.text clean).run (subst (λ run. NameHas m.state.macros run f) read (name-as defines has.1))))
     (subst (λ a. StopsAtPlace a Has limit stop) keeps.arities
     (name-footprints s names files (macros_at s names w.table) w.acting.0 text limit stop (different names files text (subst StandApart (sym tokens) apart)) stops))
 

@@ -1,5 +1,5 @@
 -- What settling the runs does at each configuration.
-use Rattle.std.proofs.Common.{◌≡◌, ℕ, ◌<◌, ◌&&◌, not, Bool, true, false, true≢false, ◌⊎◌, inl, inr, List, [], ◌∷◌, ◌++◌, All, map, length, None, append-nil, refl, sym, ap, subst, ◌∙◌, is_none, if◌then◌else◌}
+use Rattle.std.proofs.Common.{◌≡◌, ℕ, ◌<◌, ◌&&◌, not, Bool, true, false, true≢false, ◌⊎◌, inl, inr, List, [], ◌∷◌, ◌++◌, All, map, length, None, Option, append-nil, refl, sym, ap, subst, ◌∙◌, is_none, if◌then◌else◌}
 use Rattle.c11_macros.specs.Runs.{IsHeld}
 use Rattle.sc_base.specs.declared.fault.Fault as base
 use Rattle.sc_base.specs.declared.place.Place as base_place
@@ -13,19 +13,21 @@ use Rattle.sc_expand.specs.Running as running
 use Rattle.sc_expand.specs.Seen.{failures_at, provenance_of, seen_at, seen_failure, stores}
 use Rattle.sc_expand.specs.Settling.{IsHeldSettled, IsSettled}
 use Rattle.sc_model.specs.Token.{Place, Token}
-use Rattle.sc_prep.proofs.ApartLemmas.{gathers-then}
+use Rattle.sc_prep.proofs.ApartLemmas.{apart-right, gathers-then}
 use Rattle.sc_prep.proofs.CloseMoves.{empty-seen, plain-by, plain-seen, some-seen}
 use Rattle.sc_prep.proofs.Facts.{All-append, All-nil, Keeps-trans, and_parts, Extends-refl, IsConfig-Keeps, IsConfig-kept, IsTable-Extends, IsTable-Keeps, faults_at-Keeps, items-bared, items_at-Keeps, macros_at-Extends, macros_at-Keeps}
 use Rattle.sc_prep.proofs.Grown.{held-grown, plain-grown, shown-before, simulates-grown}
+use Rattle.sc_prep.proofs.LeftRuns.{left-settled}
 use Rattle.sc_prep.proofs.Plain.{settles-plain, text-plain}
 use Rattle.sc_prep.proofs.PlainRuns.{unfaulty}
 use Rattle.sc_prep.proofs.PragmaMoves.{awaits-kept}
 use Rattle.sc_prep.proofs.RunLemmas.{part-All}
 use Rattle.sc_prep.proofs.SettledText.{settled-expands, text-as, text-awaits, text-held, text-refused, text-settles}
 use Rattle.sc_prep.proofs.Stopping.{stops-as}
-use Rattle.sc_prep.proofs.Terms.{AllPass, Awaited, AwaitsAt, Comes, Cond, Denotes, Expands, Extends, Failure, HasSettled, HasText, Hidden, IsAsked, IsCond, IsConfig, IsHeldHidden, IsHeldWalk, IsPlainState, IsPlaced, IsStored, IsTable, Keeps, KeepsSettled, LineStage, Machine, Macros, Name, Owns, PlainEach, Provenance, Sets, Settled, Settles, Simulates, StandApart, Stop, StopsAtPlace, StopsBy, StopsStage, Walk, any_machine, any_token, awaits, faults_at, has_none, held_at, hidden_at, is_empty, is_plain, items_at, macros_at, outside, place_alone, seen, seen_hidden, seen_place, token_of, tokens_read, tokens_within}
+use Rattle.sc_prep.proofs.Terms.{AllPass, Awaited, AwaitsAt, Comes, Cond, Denotes, Expands, Extends, Failure, Forgets, HasSettled, HasText, Hidden, IsAsked, IsCond, IsConfig, IsHeldHidden, IsHeldWalk, IsPlainState, IsPlaced, IsStored, IsTable, Keeps, KeepsSettled, LineStage, Machine, Macros, Name, OpenRuns, Owns, PlainEach, Provenance, Sets, Settled, Settles, Simulates, StandApart, Stop, StopsAtPlace, StopsBy, StopsStage, Walk, any_machine, any_token, awaits, faults_at, has_none, held_at, hidden_at, is_empty, is_plain, items_at, macros_at, outside, place_alone, seen, seen_hidden, seen_place, token_of, tokens_read, tokens_within}
 use Rattle.sc_prep.proofs.Texts.{held_at-append, hidden-grown, items_at-All, hidden_at-append, items_seen-append}
 use Rattle.sc_prep.proofs.WalkMoves.{owns-kept, simulates-kept}
+use Rattle.sc_prep.specs.Gathered.{forgets, keeps_all}
 use Rattle.sc_subst.specs.declared.hidden.Hidden as base_hidden
 
 -- a walk whose store of hide sets has grown
@@ -421,3 +423,58 @@ module _ {files names more : List (List ℕ)} {old mid : Sets} {w v : Walk} (kee
         stops-as (λ at. at) (Comes old names files w any_machine comes) limit stop (λ c f listed has m simulates _. has m (same-machine c m listed simulates) tt)
         (subst (λ arities. StopsAtPlace arities (Comes mid more files v any_machine comes) limit stop) keeps.arities there);
   }
+
+-- ---- what was read is forgotten
+
+pub forgets-stage : (files names : List (List ℕ)) {s : Sets} (w : Walk) {runs : OpenRuns} → IsStored s names (length files) w → Forgets w.runs runs → LineStage files names s w [] names s (record w { runs = runs }) (λ config m n. n ≡ m)
+forgets-stage files names {s} w stored keeps_all = record {
+  simulates = record { owns = stored.owns; table = stored.table; at = λ c m listed simulates. record { machine = m; done = refl; simulates = simulates } };
+  held = stored.held;
+  plain = λ each was. was;
+  gathers = λ rest apart. apart;
+}
+forgets-stage files names {s} w stored (forgets none clean) =
+    let owns = stored.owns in
+    let held = stored.held in
+    record {
+      simulates = record {
+        owns = record {
+          group = owns.group;
+          acting = owns.acting;
+          sections = owns.sections;
+          runs = record { gathered = owns.runs.gathered; held = owns.runs.held; pragmas = owns.runs.pragmas; read = All-nil (λ (item : Cond × Option base_token.Token). IsCond s item.0.0) };
+          once = owns.once;
+          prepared = owns.prepared;
+        };
+        table = stored.table;
+        at = λ c m listed simulates. record {
+          machine = m;
+          done = refl;
+          simulates = record {
+            active = simulates.active;
+            acting = simulates.acting;
+            sections = simulates.sections;
+            prepared = record { live = simulates.prepared.live; fault = simulates.prepared.fault };
+            text = λ unrefused.
+                let at = simulates.text unrefused in
+                record {
+                  run = left-settled (ap (λ hs. hidden_at s names files w.runs.sets hs c) none) (text-as refl refl (sym (ap (λ fs. held_at s files fs c) clean)) at.text);
+                  awaited = at.awaited;
+                  awaits = at.awaits;
+                  text = at.text;
+                };
+            macros = simulates.macros;
+            once = simulates.once;
+          };
+        };
+      };
+      held = record {
+        runs = record { gathered = held.runs.gathered; held = held.runs.held; pragmas = held.runs.pragmas; read = All-nil (IsPlaced names (length files)) };
+        list = held.list;
+        passed = held.passed;
+        faults = held.faults;
+        once = held.once;
+      };
+      plain = λ each was. was;
+      gathers = λ rest apart. apart-right (tokens_read w.runs.read) rest apart;
+    }

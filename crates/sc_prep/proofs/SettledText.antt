@@ -128,7 +128,7 @@ text-ends (inr both) (refused before new failure run is) = absurd (cc)
 
 -- ---- where the run is empty
 
-empty-both : {A : Type 0} (xs ys : List A) → [] ≡ xs ++ ys → (xs ≡ []) × (ys ≡ [])
+pub empty-both : {A : Type 0} (xs ys : List A) → [] ≡ xs ++ ys → (xs ≡ []) × (ys ≡ [])
 empty-both [] ys is = (refl, sym is)
 empty-both (x ∷ xs) ys is = absurd (cc)
 

@@ -8,6 +8,7 @@ use Rattle.sc_expand.specs.Seen.{seen_failure}
 use Rattle.sc_model.specs.Token.{Place}
 use Rattle.sc_prep.proofs.Contents.{IsPlaced-later, place-later, tokens-later}
 use Rattle.sc_prep.proofs.Facts.{All-cons, All-head, All-nil, All-push, All-tail, Extends-within, faults_at-Keeps, faults_at-append, items_at-Keeps, items_at-append, items_at-under, map-append, under}
+use Rattle.sc_prep.proofs.LeftRuns.{left-all, left-as, left-more, left-none}
 use Rattle.sc_prep.proofs.PragmaMoves.{awaits-kept, awaits-none, owns-pragmas}
 use Rattle.sc_prep.proofs.SettledText.{text-as, text-begins, text-empty, text-more}
 use Rattle.sc_prep.proofs.Terms.{ArePlaced, Cond, Extends, Hidden, HoldsRuns, IsCond, IsConfig, IsHeldHidden, IsPlaced, Keeps, Line, Macros, Name, OpenRuns, OwnsRuns, RunAt, Sets, State, Token, faults_at, held_at, hidden_at, items_at, last_run, option_to_list, run_at, seen, seen_fault, seen_hidden, seen_place, set_at, tokens_read, unhidden, with_text}
@@ -102,7 +103,7 @@ owns-runs keeps o = record { gathered = λ k d h. keeps.own _ (o.gathered k d h)
 pub run-kept : {old new : Sets} {names files : List (List ℕ)} {runs : OpenRuns} {list : List (Cond × Token)} {c : List ℕ} {state : State} → Keeps old new → OwnsRuns old runs → All (λ (item : Cond × Token). IsCond old item.0.0) list
     → IsConfig old.arities c → RunAt old names files runs list c state → RunAt new names files runs list c state
 run-kept {names = names} {files} {runs} {list} {c} keeps owns own listed at = record {
-  run = ap (λ xs. map (seen names files) (last_run [] xs)) (items_at-Keeps runs.read c keeps owns.read listed) ∙ at.run;
+  run = left-as (ap (λ xs. map (seen names files) (last_run [] xs)) (items_at-Keeps runs.read c keeps owns.read listed)) at.run;
   awaited = at.awaited;
   awaits = awaits-kept keeps owns.pragmas listed at.awaits;
   text = text-as (ap (λ hs. map (moved (seen_place files)) (map (seen_hidden names runs.sets) hs)) (items_at-Keeps runs.gathered c keeps owns.gathered listed)) (ap (map (seen names files)) (items_at-Keeps list c keeps own listed))
@@ -140,7 +141,7 @@ module _ {names more files more_files : List (List ℕ)} (grows : Extends names 
   pub run-later : {s : Sets} {list : List (Cond × Token)} {c : List ℕ} {state : State} → HoldsRuns names (length files) runs → ArePlaced names (length files) list
       → RunAt s names files runs list c state → RunAt s more more_files (record runs { sets = hides }) list c state
   run-later {s} {list} {c} holds placed at = record {
-    run = tokens-later grows files_grow (run_at s runs.read c) (run_at-All (IsPlaced names (length files)) s runs.read c holds.read) ∙ at.run;
+    run = left-as (tokens-later grows files_grow (run_at s runs.read c) (run_at-All (IsPlaced names (length files)) s runs.read c holds.read)) at.run;
     awaited = at.awaited;
     awaits = record {
       inside = at.awaits.inside;
@@ -223,13 +224,13 @@ module _ (s : Sets) (names files : List (List ℕ)) (runs : OpenRuns) (hide : Hi
 
   pub run-more : (b : Bool) → s.has cond.0 c ≡ b → RunAt s names files runs list c state → RunAt s names files more list c (if b then with_text state line else state)
   run-more true here at = record {
-    run = shown true here ∙ (ap (λ run. run ++ map (seen names files) ts) at.run ∙ ap (λ run. state.run ++ run) (sym is));
+    run = left-as (shown true here ∙ ap (λ run. map (seen names files) (run_at s runs.read c) ++ run) (sym is)) (left-more line.tokens at.run);
     awaited = at.awaited;
     awaits = at.awaits;
     text = text-as (hidden-more runs.sets hide none s names files runs.gathered cond ts c true here ∙ ap (λ run. gathered ++ map unhidden run) (sym is)) refl refl (text-more state line gathered _ _ _ at.text);
   }
   run-more false here at = record {
-    run = shown false here ∙ (append-nil (map (seen names files) (run_at s runs.read c)) ∙ at.run);
+    run = left-as (shown false here ∙ append-nil (map (seen names files) (run_at s runs.read c))) at.run;
     awaited = at.awaited;
     awaits = at.awaits;
     text = text-as (hidden-more runs.sets hide none s names files runs.gathered cond ts c false here ∙ append-nil gathered) refl refl at.text;
@@ -241,7 +242,7 @@ module _ {s : Sets} {names files : List (List ℕ)} {runs : OpenRuns} {list : Li
   -- nothing was read
   pub run-empty : IsConfig s.arities c → (state : State) → HasNoPragma s runs.pragmas → runs.gathered ≡ [] → runs.held.items ≡ [] → runs.read ≡ [] → state.run ≡ [] → map (seen names files) (items_at s list c) ≡ state.output → RunAt s names files runs list c state
   run-empty listed state none gathered held read empty same = record {
-    run = ap (λ r. map (seen names files) (run_at s r c)) read ∙ sym empty;
+    run = left-all (ap (λ r. map (seen names files) (run_at s r c)) read ∙ sym empty);
     awaited = no_operator;
     awaits = awaits-none files listed none;
     text = text-as (ap (λ g. hidden_at s names files runs.sets g c) gathered) refl (ap (λ fs. map (moved_failure (seen_place files)) (map seen_failure (faults_at s fs c))) held)
@@ -253,7 +254,7 @@ module _ {s : Sets} {names files : List (List ℕ)} {runs : OpenRuns} {list : Li
   run-anew {other} state next none empty same at =
       let nothing = text-empty state _ _ _ _ none at.text in
       record {
-        run = at.run ∙ (none ∙ sym empty);
+        run = left-all (left-none at.run none ∙ sym empty);
         awaited = no_operator;
         awaits = subst (AwaitsAt s files runs.pragmas c) nothing.3 at.awaits;
         text = text-as refl refl nothing.2 (text-begins next _ (map (seen names files) (items_at s other c)) (nothing.0 ∙ ap (map unhidden) (sym empty)) same);

@@ -3,6 +3,7 @@
 use Rattle.std.specs.Prelude.{◌≡◌, ℕ, List, [], ◌∷◌, ◌++◌, map}
 use Rattle.c11_directives.specs.Pre.{State}
 use Rattle.c11_macros.specs.Hidden.{Failure, Hidden}
+use Rattle.c11_macros.specs.Macros.{Macros}
 use Rattle.c11_macros.specs.Runs.{IsHeld, Settles}
 use Rattle.c11_macros.specs.Text.{place_alone, token_of, unhidden}
 use Rattle.sc_base.specs.declared.fault.Fault as base
@@ -14,6 +15,7 @@ use Rattle.sc_expand.specs.Seen.{failures_at, seen_at, stores}
 use Rattle.sc_model.specs.Sets.{Sets}
 use Rattle.sc_model.specs.Token.{Place, Token}
 use Rattle.sc_prep.specs.Pragmas.{Awaited, awaits, no_operator, outside}
+use Rattle.sc_prep.specs.declared.open_runs.OpenRuns.{OpenRuns}
 use Rattle.sc_subst.specs.declared.hidden.Hidden as base_hidden
 
 -- What a first part of the run became stands behind the output, without operators and as far as one
@@ -25,6 +27,19 @@ pub data HasText (s : State) (gathered : List (Hidden Place)) (list : List Token
       → HasText s gathered list awaited []
   refused : (before new : List Token) (failure : Failure Place) → s.run ≡ before ++ new → IsHeld place_alone s.macros (map unhidden before) failure
       → HasText s gathered list awaited (failure ∷ [])
+
+-- a first part of a run has settled to its end, whatever follows, and these tokens are left
+pub record IsLeft (macros : Macros) (run left : List Token) : Type 0 where
+  pub before : List Token
+  pub done : List (Hidden Place)
+  pub is : run ≡ before ++ left
+  pub settles : Settles place_alone macros (map unhidden before) done []
+
+-- What was read of runs is kept, or it is forgotten where all of them has settled and no fault
+-- holds one.
+pub data Forgets (runs : OpenRuns) : OpenRuns → Type 0 where
+  keeps_all : Forgets runs runs
+  forgets : runs.gathered ≡ [] → runs.held.items ≡ [] → Forgets runs (record runs { read = [] })
 
 -- what a configuration has of a list of tokens that hide names, and of faults
 abbrev pub hidden_at : Sets → (names files : List (List ℕ)) → List (List Name) → List (Cond × base_hidden.Hidden) → List ℕ → List (Hidden Place)

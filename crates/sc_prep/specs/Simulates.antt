@@ -22,7 +22,7 @@ use Rattle.sc_model.specs.declared.standard.Standard.{Standard}
 use Rattle.sc_model.specs.Outside.{Files}
 use Rattle.sc_model.specs.Space.{Space}
 use Rattle.sc_prep.specs.Contents.{AreContents}
-use Rattle.sc_prep.specs.Gathered.{HasText, held_at, hidden_at}
+use Rattle.sc_prep.specs.Gathered.{HasText, IsLeft, held_at, hidden_at}
 use Rattle.sc_prep.specs.declared.content.Contents.{Contents}
 use Rattle.sc_prep.specs.Pragmas.{Awaited, AwaitsAt, OwnsPragmas}
 use Rattle.sc_prep.specs.Printable.{IsHeldWalk, IsPlainState, any_token}
@@ -47,9 +47,10 @@ pub record IsBegun (s : Sets) (names : List (List ℕ)) (table : MacroTable) (co
   pub run : first.run ≡ []
   pub once : first.once ≡ []
 
--- What this configuration has of a run: it was read, and what has become of it.
+-- What this configuration has of a run: it was read, but for a part that has settled and may be
+-- forgotten, and what has become of it.
 pub record RunAt (s : Sets) (names files : List (List ℕ)) (runs : OpenRuns) (list : List (Cond × base_token.Token)) (config : List ℕ) (state : State) : Type 0 where
-  pub run : map (seen names files) (run_at s runs.read config) ≡ state.run
+  pub run : IsLeft state.macros state.run (map (seen names files) (run_at s runs.read config))
   pub awaited : Awaited
   pub awaits : AwaitsAt s files runs.pragmas config awaited
   pub text : HasText state (hidden_at s names files runs.sets runs.gathered config) (map (seen names files) (items_at s list config)) awaited (held_at s files runs.held.items config)

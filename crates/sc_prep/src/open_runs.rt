@@ -3,6 +3,7 @@ ghost use Rattle.std.specs.Prelude.{◌≡◌, ℕ, ◌++◌, ◌∷◌, [], Lis
 ghost use Rattle.sc_guarded.specs.Items.{items_at};
 ghost use Rattle.sc_model.specs.Sets.{IsCond, IsConfig, Keeps, Sets};
 ghost use Rattle.sc_prep.specs.Apart.{tokens_in};
+ghost use Rattle.sc_prep.specs.Gathered.{Forgets};
 ghost use Rattle.sc_prep.specs.Pragmas.{HasNoPragma};
 ghost use Rattle.sc_prep.specs.Read.{EndsRead, TakesOut, run_at, tokens_read};
 ghost use Rattle.sc_base.specs.declared.id.Cond.{Cond};
@@ -27,8 +28,8 @@ pub struct OpenRuns {
     pub held: Vec<Fault>,
     /// The `_Pragma` operators in what was put out of them.
     pub pragmas: Pragmas,
-    /// All that was read since none was open: in order, each token with the configurations that
-    /// have it, and where runs ended the configurations whose they were.
+    /// All that was read since none was open, or all of it had settled: in order, each token with
+    /// the configurations that have it, and where runs ended the configurations whose they were.
     pub read: Guarded<Option<Token>>,
 }
 
@@ -77,6 +78,16 @@ impl OpenRuns {
             return Ok(());
         }
         self.read.push(acting, None)?;
+        Ok(())
+    }
+
+    /// What was read is forgotten where all of it has settled and no fault holds a run.
+    pub fn forget(&mut self, alloc: Global) -> Result<(), OutOfMemory>
+        ensures { OnOk result (Forgets self.old self.new) }
+    {
+        if self.gathered.len() == 0 && self.held.as_slice().len() == 0 {
+            self.read = Guarded::new(alloc)?;
+        }
         Ok(())
     }
 

@@ -60,8 +60,9 @@ impl Walk {
         Err(Stop::OutOfMemory)
     }
 
-    /// Before so many tokens more are gathered, what was gathered settles where that is due. Where
-    /// more configurations than the limit differ in a name, it stays gathered until runs end.
+    /// Before so many tokens more are gathered, what was gathered settles where that is due, and
+    /// what was read of it is forgotten if nothing waits. Where more configurations than the limit
+    /// differ in a name, it stays gathered until runs end.
     #[tactic(auto, using(sc_model::proofs::SetLemmas::conditions))]
     pub fn settle_if_due<C: Conditions>(
         &mut self,
@@ -82,6 +83,7 @@ impl Walk {
         let read = self.runs.read.len();
         if is_due(read, more, self.runs.gathered.len()) {
             self.settle_within(alloc, conds, names, files, limit)?;
+            self.runs.forget(alloc)?;
         }
         Ok(())
     }
