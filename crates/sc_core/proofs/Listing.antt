@@ -1,5 +1,5 @@
 -- The configurations that a condition lists are those of the text of a space.
-use Rattle.std.proofs.Common.{◌≡◌, ◌⊎◌, ◌&&◌, Option, inl, inr, ℕ, Bool, true, false, List, [], ◌∷◌, Ok, Err, refl, sym, ap, ◌∙◌, subst}
+use Rattle.std.proofs.Common.{◌≡◌, ◌≤◌, ◌⊎◌, ◌&&◌, Option, inl, inr, ℕ, Bool, true, false, List, [], Ok, Err, refl, sym, ap, ◌∙◌, subst}
 use Rattle.std.proofs.lemmas.Bool.{and_parts, cases_Bool}
 use Rattle.c11_directives.proofs.ListedLaws.{says-unique}
 use Rattle.c11_directives.specs.Footprints.{FilesHave, Has, of_files, of_valid}
@@ -7,7 +7,7 @@ use Rattle.c11_directives.specs.Listed.{HasListed, IsListed, SaysValid}
 use Rattle.c11_directives.specs.Pre.{Pre}
 use Rattle.sc_base.specs.declared.stop.Stop.{Stop}
 use Rattle.sc_base.specs.declared.stop.Stop.TheVariants.{BranchesFull, ReadFault, OutOfMemory}
-use Rattle.sc_core.proofs.Failing.{fills-job}
+use Rattle.sc_core.proofs.Failing.{fills-job, rose-before}
 use Rattle.sc_core.proofs.Filling.{any-parser}
 use Rattle.sc_core.specs.declared.run_error.RunError.{RunError}
 use Rattle.sc_core.specs.declared.run_error.RunError.TheVariants as error
@@ -16,8 +16,8 @@ use Rattle.sc_core.specs.Outcome.{FailsFor, HasSpace, IsOn, IsUnlisted, Job, Lis
 use Rattle.sc_args.specs.Words.{project}
 use Rattle.sc_core.proofs.Cuts.{first-formed, never-fills, one-config, says-cut}
 use Rattle.sc_core.specs.Cut.{cut_space, first_config}
-use Rattle.sc_core.specs.RunError.{space_line}
-use Rattle.sc_core.specs.Texts.{FailsToList, ReadsSpace, TellsFault, setting_of}
+use Rattle.sc_core.specs.RunError.{branches_line, space_line}
+use Rattle.sc_core.specs.Texts.{FailsAlone, FailsToList, FailsUnder, FillsIn, ReadsSpace, StopsIn, TellsFault, TellsStop, setting_of}
 use Rattle.sc_guarded.specs.Items.{faults_at}
 use Rattle.sc_model.proofs.SetLemmas.{IsConfig-Keeps, IsConfig-kept}
 use Rattle.sc_model.specs.Outside.{Files}
@@ -169,14 +169,9 @@ module _ {space : Space} {config : List ℕ} (formed : IsConfig (arities_of spac
       unsaid_there cause (says-cut formed (subst (λ c. SaysValid (cut_space space config) c (Err cause)) here by.says))
   unlisted _ (nowhere each) = not_there (says-cut formed (each (first_config (cut_space space config)) (first-formed space config formed)))
 
-  -- a condition of it that has one has this one
-  pub chosen-listed : {s : Sets} {live : ℕ} → IsValidSet s (cut_space space config) live → s.arities ≡ arities_of (cut_space space config)
-      → (IsNever s live → ⊥) → IsListed space config
-  chosen-listed valid arities some =
-      record { formed = formed; valid = says-cut formed (one-listed valid arities (first-formed space config formed) (one-config space config formed) some).valid }
-
-  pub chosen-of : {s : Sets} {live : ℕ} {only : Space} → only ≡ cut_space space config → IsValidSet s only live → s.arities ≡ arities_of only → (IsNever s live → ⊥) → IsListed space config
-  chosen-of {s} {live} is valid arities some = chosen-listed (subst (λ (o : Space). IsValidSet s o live) is valid) (arities ∙ ap arities_of is) some
+  -- it lists this one, if the space that is cut to it lists its first one
+  pub chosen-listed : {only : Space} → only ≡ cut_space space config → IsListed only (first_config only) → IsListed space config
+  chosen-listed is listed = record { formed = formed; valid = says-cut formed (subst (λ (o : Space). IsListed o (first_config o)) is listed).valid }
 
 -- the chosen configuration is not listed
 pub unlisted-fails : (reading : Reading) (name main : List ℕ) (choices : List (List ℕ)) (space : Space) (config : List ℕ) → IsConfig (arities_of space) config → read_config space choices ≡ Ok config
@@ -193,3 +188,60 @@ unlisted-fails reading name main choices space config formed read sound is (erro
 unlisted-fails reading name main choices space config formed read sound is (error.BranchesFull line) fails = absurd (never-fills (cut_space space config) (one-config space config formed) sound fails.0)
 unlisted-fails reading name main choices space config formed read sound is error.ReadFault fails = absurd fails
 unlisted-fails reading name main choices space config formed read sound is error.OutOfMemory fails = tt
+
+-- the same, where reading may have failed too
+pub alone-fails : (reading : Reading) (name main : List ℕ) (choices : List (List ℕ)) (space : Space) (config : List ℕ) → IsConfig (arities_of space) config
+    → read_config space choices ≡ Ok config
+    → IsSound (cut_space space config) → ReadsSpace reading.holds name space → (mid : ℕ) → reading.before ≤ mid → (e : RunError)
+    → FailsAlone mid reading.after (cut_space space config) e
+    → FailsFor (job_of (project name main choices)) reading e
+alone-fails reading name main choices space config formed read sound is mid least error.ReadFault fails =
+    (refl, rose-before reading.before mid reading.after least fails)
+alone-fails reading name main choices space config formed read sound is mid least e fails =
+    unlisted-fails reading name main choices space config formed read sound is e fails
+
+-- ---- a space of one configuration that has no text
+
+pub unlisted-alone : (before after : ℕ) (space : Space) (e : RunError) → FailsToList space file.invalid e → FailsAlone before after space e
+unlisted-alone before after space error.ReadFault fails = absurd fails
+unlisted-alone before after space e fails = fails
+
+pub stopped-alone : (fills : Setting → Type 0) (holds : Option Files) (before after : ℕ) (space : Space) (main : List ℕ) → IsSound space
+    → ((c : List ℕ) → IsConfig (arities_of space) c → c ≡ first_config space)
+    → (stop : Stop) → StopsIn fills holds before after space main stop → (e : RunError) → TellsStop stop e → FailsAlone before after space e
+stopped-alone fills holds before after space main sound one ReadFault stops error.ReadFault told = stops
+stopped-alone fills holds before after space main sound one OutOfMemory stops error.OutOfMemory told = tt
+stopped-alone fills holds before after space main sound one (BranchesFull count) stops e told = absurd (never-fills space one sound stops.1.configs)
+stopped-alone fills holds before after space main sound one _ stops _ told = absurd told
+
+-- ---- a space that has no text
+
+module _ (fills : Setting → Type 0) (holds : Option Files) (before after : ℕ) (space : Space) (main : List ℕ) where
+  pub unlisted-under : (e : RunError) → FailsToList space file.no_configuration e → FailsUnder fills holds before after space main e
+  unlisted-under error.ReadFault fails = absurd fails
+  unlisted-under (error.BranchesFull line) fails = inl fails
+  unlisted-under e fails = fails
+
+  pub stopped-under : (stop : Stop) → StopsIn fills holds before after space main stop → (e : RunError) → TellsStop stop e
+      → FailsUnder fills holds before after space main e
+  stopped-under ReadFault stops error.ReadFault told = stops
+  stopped-under OutOfMemory stops error.OutOfMemory told = tt
+  stopped-under (BranchesFull count) stops (error.BranchesFull line) told = inr (stops.1, told ∙ ap branches_line stops.0)
+  stopped-under _ stops _ told = absurd told
+
+-- nor has the job that asks for it
+pub under-fails : (job : Job) (fills : Setting → Type 0) (reading : Reading) (name main : List ℕ) (space : Space) → job.reads ≡ true
+    → ((s : Setting) → IsOn reading.holds name main s → job.has reading.holds s)
+    → ((s : Setting) → WhereTold reading.holds s.files (fills s) → job.fills reading.holds s) → ((s : Setting) → HasManyFootprints s → fills s)
+    → ((files : Files) (line : List ℕ) (fault : file.Fault) → HasSpace files name space → ListsNone space file.no_configuration fault → line ≡ space_line fault → job.refuses files line)
+    → ReadsSpace reading.holds name space → (holds : Option Files) → holds ≡ reading.holds → (mid : ℕ) → reading.before ≤ mid → (e : RunError)
+    → FailsUnder fills holds mid reading.after space main e
+    → FailsFor job reading e
+under-fails job fills reading name main space reads has why of refuses is holds same mid least error.ReadFault fails =
+    (reads, rose-before reading.before mid reading.after least fails)
+under-fails job fills reading name main space reads has why of refuses is holds same mid least (error.BranchesFull line) (inl fails) =
+    list-fails job fills reading name main space file.no_configuration has why of refuses is (error.BranchesFull line) fails
+under-fails job fills reading name main space reads has why of refuses is holds same mid least (error.BranchesFull line) (inr fails) =
+    fills-job job fills reading.holds name main line.items space has why is (subst (λ h. FillsIn fills h space main) same fails.0) fails.1
+under-fails job fills reading name main space reads has why of refuses is holds same mid least e fails =
+    list-fails job fills reading name main space file.no_configuration has why of refuses is e fails

@@ -36,7 +36,6 @@ use Rattle.sc_guarded.specs.Printable.{AreApart, IsShowable, IsShowableFault}
 use Rattle.sc_lalr.specs.declared.tables.Tables as code
 use Rattle.sc_lalr.specs.Tables.{conflicts_of, tables_of}
 use Rattle.sc_merge.specs.Merges.{tables_with}
-use Rattle.sc_model.proofs.SetLemmas.{IsConfig-Keeps}
 use Rattle.sc_model.specs.Fault.{Fault}
 use Rattle.sc_model.specs.Outside.{Files}
 use Rattle.sc_model.specs.Sets.{Sets, IsConfig, Keeps}

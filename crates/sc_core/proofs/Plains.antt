@@ -18,7 +18,7 @@ use Rattle.sc_guarded.specs.Items.{faults_at, seen_fault}
 use Rattle.sc_guarded.specs.Printable.{AreApart, IsShowableFault}
 use Rattle.sc_model.specs.Fault.{Fault}
 use Rattle.sc_model.specs.Outside.{Files}
-use Rattle.sc_model.specs.Sets.{Sets, IsCond, IsConfig}
+use Rattle.sc_model.specs.Sets.{Sets, IsCond}
 use Rattle.sc_model.specs.Space.{Space}
 use Rattle.sc_project.specs.Layout.{AllLaid, HasTree, LaysOut, leaf_laid, node_laid, choice_laid, none_laid, more_laid}
 use Rattle.sc_show.specs.TreeShows.{AreShowableLeaves, IsShowableLeaf}

@@ -95,6 +95,11 @@ FailsToList space none (error.BranchesFull line) = HasManyConfigs space × HasFo
 FailsToList space none error.OutOfMemory = Unit {0}
 FailsToList space none _ = ⊥
 
+-- why a space of one configuration has no text: that is not listed, or a read failed
+abbrev pub FailsAlone : ℕ → ℕ → Space → RunError → Type 0
+FailsAlone before after space error.ReadFault = Rose before after
+FailsAlone before after space e = FailsToList space file.invalid e
+
 -- what a stop is told as
 abbrev pub TellsStop : Stop → RunError → Type 0
 TellsStop ReadFault error.ReadFault = Unit {0}
@@ -225,3 +230,11 @@ abbrev pub StopsIn : (Setting → Type 0) → Option Files → ℕ → ℕ → S
 StopsIn fills holds before after space main (BranchesFull count) = (count ≡ space.branches + 1) × FillsIn fills holds space main
 StopsIn fills holds before after space main ReadFault = Rose before after
 StopsIn fills holds before after space main OutOfMemory = Unit {0}
+
+-- why a space has no text: it lists none, its file has too many branches, or a read failed
+abbrev pub FailsUnder : (Setting → Type 0) → Option Files → ℕ → ℕ → Space → List ℕ → RunError → Type 0
+FailsUnder fills holds before after space main error.ReadFault = Rose before after
+FailsUnder fills holds before after space main (error.BranchesFull line) =
+    FailsToList space file.no_configuration (error.BranchesFull line)
+    ⊎ (FillsIn fills holds space main × (line.items ≡ branches_line (space.branches + 1)))
+FailsUnder fills holds before after space main e = FailsToList space file.no_configuration e

@@ -4,7 +4,7 @@ ghost use Rattle.sc_core.specs.Ordinary.{HasManyFootprints};
 ghost use Rattle.sc_core.specs.Outcome.{FailsFor, FailsWith, job_of};
 ghost use Rattle.sc_core.specs.RunError as lines;
 ghost use Rattle.sc_fork.specs.Owns.{HasC11Tables};
-ghost use Rattle.sc_core.specs.Texts.{IsAnswer, IsAnswerFor, StopsIn, TellsTokens, lines_of};
+ghost use Rattle.sc_core.specs.Texts.{FailsUnder, IsAnswer, IsAnswerFor, StopsIn, TellsTokens, lines_of};
 ghost use Rattle.sc_model.specs.Outside.{Files as Outside};
 ghost use Rattle.sc_model.specs.Sets.{IsCond, IsNever};
 ghost use Rattle.sc_model.specs.Space.{arities_of};
@@ -14,7 +14,7 @@ ghost use Rattle.sc_show.specs.Pieces.{IsLine};
 ghost use Rattle.sc_space.specs.Seen.{seen_space, seen_variable};
 ghost use Rattle.sc_space.specs.Sound.{IsSound};
 
-use crate::listed::listed;
+use crate::listed::{listed, stopped};
 use crate::output::Output;
 use crate::run_error::RunError;
 use crate::space_file::read_space;
@@ -91,15 +91,33 @@ fn tokens_text<S: Source>(
     ensures counted { S.faults src.old ≤ S.faults src.new }
 {
     let space = read_space(alloc, src, space)?;
-    let mut conds = conditions(alloc, &space)?;
-    let live = listed(alloc, &mut conds, &space, SpaceFault::NoConfiguration)?;
-    match text_under(alloc, src, &mut conds, &space, live, file) {
+    let text = tokens_in(alloc, src, &space, file)?;
+    Ok(text)
+}
+
+/// The tokens and the faults of a file in a space.
+fn tokens_in<S: Source>(
+    alloc: Global,
+    src: &mut S,
+    space: &Space,
+    file: &str,
+) -> Result<Output, RunError>
+    requires sound { IsSound (seen_space space.now) }
+    requires plain { has_no_newline file.now ≡ true }
+    ensures lines { IfOk result (λ text. All IsLine (lines_of text)) }
+    ensures tokens { IfOk result (TellsTokens (S.holds src.old) (seen_space space.now) file.now) }
+    ensures error { IfErr result (FailsUnder (λ s. HasManyFootprints s) (S.holds src.old) (S.faults src.old) (S.faults src.new)
+        (seen_space space.now) file.now) }
+
+    // at every outcome
+    ensures kept { S.holds src.new ≡ S.holds src.old }
+    ensures counted { S.faults src.old ≤ S.faults src.new }
+{
+    let mut conds = conditions(alloc, space)?;
+    let live = listed(alloc, &mut conds, space, SpaceFault::NoConfiguration)?;
+    match text_under(alloc, src, &mut conds, space, live, file) {
         Ok(text) => Ok(text),
-        Err(Stop::ReadFault) => Err(RunError::ReadFault),
-        Err(Stop::OutOfMemory) => Err(RunError::OutOfMemory),
-        Err(Stop::BranchesFull { count }) => {
-            Err(RunError::BranchesFull(branches_line(alloc, count)?))
-        }
+        Err(stop) => Err(stopped(alloc, stop)?),
     }
 }
 

@@ -1,11 +1,11 @@
 //! The texts of trees.
 ghost use Rattle.std.specs.Prelude.{◌≡◌, ◌≤◌, ℕ, List, Some, All, true, false, map, string_bytes, IfOk, IfErr};
-ghost use Rattle.c11_directives.specs.Listed.{IsListed};
+ghost use Rattle.c11_directives.specs.Listed.{HasListed, IsListed};
 ghost use Rattle.sc_args.specs.Words.{is_file_name, parse as asked_parse, project as asked_project};
 ghost use Rattle.sc_core.specs.Cut.{first_config};
 ghost use Rattle.sc_core.specs.Ordinary.{HasManyBranches};
 ghost use Rattle.sc_core.specs.Outcome.{FailsFor, job_of};
-ghost use Rattle.sc_core.specs.Texts.{AreTranslated, CanShowTree, HasAnswers, IsAnswerFor, IsPlain, lines_of, seen_by, StopsIn, TellsChoices, TellsPlain};
+ghost use Rattle.sc_core.specs.Texts.{AreTranslated, CanShowTree, FailsAlone, FailsUnder, HasAnswers, IsAnswerFor, IsPlain, lines_of, seen_by, StopsIn, TellsChoices, TellsPlain};
 ghost use Rattle.sc_fork.specs.Choices.{AreSound};
 ghost use Rattle.sc_model.specs.Bytes.{has_no_newline};
 ghost use Rattle.sc_model.specs.Growth.{Extends};
@@ -19,11 +19,11 @@ ghost use Rattle.sc_space.specs.Seen.{seen_space};
 ghost use Rattle.sc_space.specs.Sound.{IsSound};
 
 use crate::cut::cut;
-use crate::listed::listed;
+use crate::listed::{listed, stopped};
 use crate::output::Output;
 use crate::run_error::RunError;
 use crate::space_file::{chosen_config, read_space};
-use crate::texts::{branches_line, conditions, has_fault, tables};
+use crate::texts::{conditions, has_fault, tables};
 use sc_base::{Cond, Fault, Files, Names, OutOfMemory, Stop, TreeId};
 use sc_parse::parse;
 use sc_prep::preprocess;
@@ -61,15 +61,34 @@ pub fn parse_text<S: Source>(
     ensures counted { S.faults src.old ≤ S.faults src.new }
 {
     let space = read_space(alloc, src, space)?;
-    let mut conds = conditions(alloc, &space)?;
-    let live = listed(alloc, &mut conds, &space, SpaceFault::NoConfiguration)?;
-    match tree_under(alloc, src, &mut conds, &space, live, file) {
+    let text = tree_in(alloc, src, &space, file)?;
+    Ok(text)
+}
+
+/// The tree and the faults of a file in a space.
+fn tree_in<S: Source>(
+    alloc: Global,
+    src: &mut S,
+    space: &Space,
+    file: &str,
+) -> Result<Output, RunError>
+    requires sound { IsSound (seen_space space.now) }
+    requires plain { has_no_newline file.now ≡ true }
+    ensures lines { IfOk result (λ text. All IsLine (lines_of text)) }
+    ensures tree { IfOk result (TellsChoices (S.holds src.old) (seen_space space.now) file.now) }
+    ensures some { IfOk result (λ text. HasListed (seen_space space.now)) }
+    ensures error { IfErr result (FailsUnder (λ s. HasManyBranches s) (S.holds src.old) (S.faults src.old) (S.faults src.new)
+        (seen_space space.now) file.now) }
+
+    // at every outcome
+    ensures kept { S.holds src.new ≡ S.holds src.old }
+    ensures counted { S.faults src.old ≤ S.faults src.new }
+{
+    let mut conds = conditions(alloc, space)?;
+    let live = listed(alloc, &mut conds, space, SpaceFault::NoConfiguration)?;
+    match tree_under(alloc, src, &mut conds, space, live, file) {
         Ok(text) => Ok(text),
-        Err(Stop::ReadFault) => Err(RunError::ReadFault),
-        Err(Stop::OutOfMemory) => Err(RunError::OutOfMemory),
-        Err(Stop::BranchesFull { count }) => {
-            Err(RunError::BranchesFull(branches_line(alloc, count)?))
-        }
+        Err(stop) => Err(stopped(alloc, stop)?),
     }
 }
 
@@ -93,15 +112,35 @@ pub fn project_text<S: Source>(
     let space = read_space(alloc, src, space)?;
     let config = chosen_config(alloc, &space, choices)?;
     let only = cut(alloc, space, &config)?;
-    let mut conds = conditions(alloc, &only)?;
-    let live = listed(alloc, &mut conds, &only, SpaceFault::Invalid)?;
-    match plain_under(alloc, src, &mut conds, &only, live, file) {
+    let text = text_alone(alloc, src, &only, file)?;
+    Ok(text)
+}
+
+/// The tree or the fault of a file in a space of one configuration.
+fn text_alone<S: Source>(
+    alloc: Global,
+    src: &mut S,
+    space: &Space,
+    file: &str,
+) -> Result<Output, RunError>
+    requires sound { IsSound (seen_space space.now) }
+    requires plain { has_no_newline file.now ≡ true }
+    requires formed { IsConfig (arities_of (seen_space space.now)) (first_config (seen_space space.now)) }
+    requires one { (c : List ℕ) → IsConfig (arities_of (seen_space space.now)) c → c ≡ first_config (seen_space space.now) }
+    ensures lines { IfOk result (λ text. All IsLine (lines_of text)) }
+    ensures tree { IfOk result (TellsPlain (S.holds src.old) (seen_space space.now) file.now) }
+    ensures listed { IfOk result (λ text. IsListed (seen_space space.now) (first_config (seen_space space.now))) }
+    ensures error { IfErr result (FailsAlone (S.faults src.old) (S.faults src.new) (seen_space space.now)) }
+
+    // at every outcome
+    ensures kept { S.holds src.new ≡ S.holds src.old }
+    ensures counted { S.faults src.old ≤ S.faults src.new }
+{
+    let mut conds = conditions(alloc, space)?;
+    let live = listed(alloc, &mut conds, space, SpaceFault::Invalid)?;
+    match plain_under(alloc, src, &mut conds, space, live, file) {
         Ok(text) => Ok(text),
-        Err(Stop::ReadFault) => Err(RunError::ReadFault),
-        Err(Stop::OutOfMemory) => Err(RunError::OutOfMemory),
-        Err(Stop::BranchesFull { count }) => {
-            Err(RunError::BranchesFull(branches_line(alloc, count)?))
-        }
+        Err(stop) => Err(stopped(alloc, stop)?),
     }
 }
 

@@ -1,0 +1,28 @@
+use Rattle.std.proofs.Common.{◌∙◌}
+use Rattle.std.proofs.lemmas.Result.{err_from_is_err_and}
+use Rattle.sc_core.proofs.Listing.{one-listed, stopped-alone, unlisted-alone}
+use Rattle.sc_core.proofs.tree_texts.text_alone.Goals as goal
+use Rattle.sc_core.specs.Ordinary.{HasManyBranches}
+use Rattle.sc_space.specs.Seen.{seen_space}
+
+pub returns-in_err-live-clause-error : goal.returns-in_err-live-clause-error
+returns-in_err-live-clause-error g c =
+    let p = err_from_is_err_and c.from_residual-in_err-live.result c.from_residual-in_err-live.ensures.1 in
+    rw (p.1, p.2) (unlisted-alone (g.S.Source.faults c.args.src.now) (g.S.Source.faults c.args.src.now) (seen_space c.args.space.now)
+    c.in_err-live.field-0.0 c.in_err-live.ensures.error)
+
+pub returns-in-Ok-clause-listed : goal.returns-in-Ok-clause-listed
+returns-in-Ok-clause-listed g c =
+    let live = c.in_ok-live.ensures in
+    one-listed live.listed (live.keeps.arities ∙ c.in_ok-conds.ensures) c.requires.formed c.requires.one live.some
+
+pub returns-clause-error : goal.returns-clause-error
+returns-clause-error g c =
+    stopped-alone (λ s. HasManyBranches s) (g.S.Source.holds c.args.src.now) (g.S.Source.faults c.args.src.now) (g.S.Source.faults c.plain_under.new.src)
+    (seen_space c.args.space.now) c.args.file.now
+    c.requires.sound c.requires.one c.in-Err.stop c.in-Err.ensures.stops c.in_ok-stopped-in-Err.field-0 c.in_ok-stopped-in-Err.ensures
+
+pub returns-in_err-stopped-in-Err-clause-error : goal.returns-in_err-stopped-in-Err-clause-error
+returns-in_err-stopped-in-Err-clause-error g c =
+    let p = err_from_is_err_and c.from_residual-in_err-stopped-in-Err.result c.from_residual-in_err-stopped-in-Err.ensures.1 in
+    rw (p.1, p.2) tt
