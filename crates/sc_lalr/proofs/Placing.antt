@@ -1,13 +1,17 @@
 -- The items that stand in the states, as nodes.
-use Rattle.std.proofs.Common.{zero, suc, ◌≡◌, ◌<◌, ◌≤◌, ◌+◌, ◌*◌, ◌/◌, ◌%◌, ℕ, List, [], ◌∷◌, ◌++◌, length, get_or, slice_get, slice_index, Some, inl, inr, refl, sym, ap, ◌∙◌, subst, arith}
+use Rattle.std.proofs.Common.{zero, suc, ◌≡◌, ◌↔◌, ◌<◌, ◌≤◌, ◌+◌, ◌*◌, ◌/◌, ◌%◌, ℕ, Bool, IsTrue, List, [], ◌∷◌, ◌++◌, length, get_or, set, slice_get, slice_index, Some, inl, inr, refl, sym, ap, ◌∙◌, subst, arith}
 use Rattle.std.specs.List.{Contains}
-use Rattle.std.proofs.lemmas.List.{length_push, get_or_append_left, get_or_push}
+use Rattle.std.proofs.lemmas.List.{length-set, get_or-set_other, get_or-set_same}
 use Rattle.std.proofs.lemmas.Option.{same_Some, slice_get_within, slice_get-get_or, slice_get_read, get_or_from_slice_get, none-some}
 use Rattle.std.proofs.lemmas.Nat.{same_from_place, mul-add-lt, div-add-mod', mod_below}
 use Rattle.lr_tables.specs.declared.grammar.Grammar.{Grammar}
 use Rattle.sc_items.specs.Kernel.{IsListOf}
-use Rattle.sc_items.specs.States.{HasItem}
-use Rattle.sc_items.proofs.Listing.{IsListOf-push, IsListOf-skip, IsListOf-none}
+use Rattle.lr_tables.specs.Tables.{Closure}
+use Rattle.sc_items.specs.declared.automaton.State.{State}
+use Rattle.sc_items.specs.declared.automaton.States.{States}
+use Rattle.sc_items.specs.Reach.{marked}
+use Rattle.sc_items.specs.States.{AreStates, HasItem, kernels_of}
+use Rattle.sc_items.proofs.Listing.{IsListOf-left, IsListOf-push, IsListOf-none}
 use Rattle.sc_base.proofs.Growth.{push_cases}
 use Rattle.sc_lalr.specs.Propagation.{IsPlace, HasPlace, AreNodes, IsNode}
 use Rattle.sc_lalr.specs.declared.nodes.Nodes.{Nodes}
@@ -69,48 +73,75 @@ module _ (g : Grammar) (states : List (List ℕ)) (nodes : Nodes) (are : AreNode
   pub number_in : (s i : ℕ) → s < length states → i < length g.entries.now → s * length g.entries.now + i < length nodes.numbers.items
   number_in s i s_in i_in = omega (arith, mul-add-lt s (length g.entries.now) i (length states) s_in i_in, are.long)
 
--- ---- the nodes of the first places
+-- ---- the row of a state
+pub record IsRow (g : Grammar) (states : List (List ℕ)) (s : ℕ) (marks : List Bool) : Type 0 where
+  pub long : length marks ≡ length g.entries.now
+  pub has : (i : ℕ) → IsTrue (marked marks i) ↔ HasItem g states s i
+
+pub row_of_state : (g : Grammar) (states : States) (s : ℕ) (row : State) (marks : List Bool) → AreStates g states → s < length (kernels_of states) → row ≡ get_or states.rows.items s row → marks ≡ row.items.items → IsRow g (kernels_of states) s marks
+row_of_state g states s row marks h within e f =
+    let at = slice_get_read states.rows.items (length states.rows.items) s row refl (omega (arith, h.long, within)) e in
+    let is = h.each s row at in
+    record {
+      long = ap length f ∙ is.long;
+      has = λ i. (
+        λ m. record { kernel = is.kernel; kernel_at = is.kernel_at; within = (is.items i).0 (subst (λ zs. IsTrue (marked zs i)) f m) },
+        λ w. subst (λ zs. IsTrue (marked zs i)) (sym f) ((is.items i).1 (subst (λ zs. Closure g zs i) (same_Some w.kernel is.kernel (sym w.kernel_at ∙ is.kernel_at)) w.within)),
+      );
+    }
+
+-- ---- the nodes of the first places, with room for the numbers of all
 pub record NodesBelow (g : Grammar) (states : List (List ℕ)) (k : ℕ) (places numbers : List ℕ) : Type 0 where
-  pub long : length numbers ≡ k
+  pub long : length numbers ≡ length states * length g.entries.now
   pub places_are : IsListOf k (HasPlace g states) places
   pub numbers_are : (u p : ℕ) → slice_get places u ≡ Some p → slice_index numbers p ≡ u
 
-pub NodesBelow-none : (g : Grammar) (states : List (List ℕ)) → NodesBelow g states 0 [] []
-NodesBelow-none g states = record {
-  long = refl;
-  places_are = IsListOf-none (HasPlace g states);
+pub NodesBelow-none : (g : Grammar) (states : List (List ℕ)) (numbers : List ℕ) → length numbers ≡ length states * length g.entries.now → NodesBelow g states (0 * length g.entries.now) [] numbers
+NodesBelow-none g states numbers e = let f : 0 ≡ 0 * length g.entries.now = omega arith in record {
+  long = e;
+  places_are = subst (λ k. IsListOf k (HasPlace g states) []) f (IsListOf-none (HasPlace g states));
   numbers_are = λ u p at. absurd (none-some p at);
 }
 
-numbers_more : (places numbers : List ℕ) (k c u p : ℕ) → length numbers ≡ k → ((q : ℕ) → Contains places q → q < k) → ((v q : ℕ) → slice_get places v ≡ Some q → slice_index numbers q ≡ v) → slice_get places u ≡ Some p → slice_index (numbers ++ c ∷ []) p ≡ u
-numbers_more places numbers k c u p long below are at =
-    let p_in : p < length numbers = omega (arith, long, below p (member_at places u p at)) in
-    get_or_append_left numbers (c ∷ []) 0 p p_in ∙ are u p at
+place_next : (a i : ℕ) → a + i + 1 ≡ a + (i + 1)
+place_next a i = omega arith
 
-pub NodesBelow-left : (g : Grammar) (states : List (List ℕ)) (k c : ℕ) (places numbers : List ℕ) → NodesBelow g states k places numbers → (HasPlace g states k → ⊥) → NodesBelow g states (k + 1) places (numbers ++ c ∷ [])
-NodesBelow-left g states k c places numbers h not = record {
-  long = length_push numbers c ∙ ap (λ z. z + 1) h.long;
-  places_are = IsListOf-skip (HasPlace g states) k places h.places_are not;
-  numbers_are = λ u p at. numbers_more places numbers k c u p h.long h.places_are.below h.numbers_are at;
+pub NodesBelow-left : (g : Grammar) (states : List (List ℕ)) (s i : ℕ) (row : List Bool) (places numbers : List ℕ) → IsRow g states s row → i < length row → (IsTrue (marked row i) → ⊥) → NodesBelow g states (s * length g.entries.now + i) places numbers → NodesBelow g states (s * length g.entries.now + (i + 1)) places numbers
+NodesBelow-left g states s i row places numbers is i_in not h = record {
+  long = h.long;
+  places_are = subst (λ k. IsListOf k (HasPlace g states) places) (place_next (s * length g.entries.now) i)
+      (IsListOf-left (HasPlace g states) (s * length g.entries.now + i) places places h.places_are refl (λ w. not ((is.has i).1 (has_at g states (s * length g.entries.now + i) s i (record { within = omega (arith, is.long, i_in); is = refl }) w))));
+  numbers_are = h.numbers_are;
 }
 
-pub NodesBelow-kept : (g : Grammar) (states : List (List ℕ)) (k c : ℕ) (places numbers : List ℕ) → NodesBelow g states k places numbers → c ≡ length places → HasPlace g states k → NodesBelow g states (k + 1) (places ++ k ∷ []) (numbers ++ c ∷ [])
-NodesBelow-kept g states k c places numbers h e one = record {
-  long = length_push numbers c ∙ ap (λ z. z + 1) h.long;
-  places_are = IsListOf-push (HasPlace g states) k places h.places_are one;
-  numbers_are = λ u p at. elim (push_cases places k u p at) [
-    | inl a ↦ numbers_more places numbers k c u p h.long h.places_are.below h.numbers_are a
-    | inr a ↦ get_or_push numbers c 0 p (h.long ∙ a.1) ∙ e ∙ sym a.0
+pub NodesBelow-kept : (g : Grammar) (states : List (List ℕ)) (s i c : ℕ) (row : List Bool) (places numbers : List ℕ) → IsRow g states s row → s < length states → i < length row → IsTrue (marked row i) → c ≡ length places → NodesBelow g states (s * length g.entries.now + i) places numbers
+    → NodesBelow g states (s * length g.entries.now + (i + 1)) (places ++ (s * length g.entries.now + i) ∷ []) (set numbers (s * length g.entries.now + i) c)
+NodesBelow-kept g states s i c row places numbers is s_in i_in m e h = record {
+  long = length-set numbers p c ∙ h.long;
+  places_are = subst (λ k. IsListOf k (HasPlace g states) (places ++ p ∷ [])) (place_next (s * length g.entries.now) i)
+      (IsListOf-push (HasPlace g states) p places h.places_are (record { s = s; i = i; at = record { within = within; is = refl }; has = (is.has i).0 m }));
+  numbers_are = λ u q at. elim (push_cases places p u q at) [
+    | inl a ↦ (get_or-set_other numbers p q c 0 (λ f. omega (arith, f, h.places_are.below q (member_at places u q a))) ∙ h.numbers_are u q a)
+    | inr a ↦ (ap (λ z. slice_index (set numbers p c) z) (sym a.1) ∙ get_or-set_same numbers p c 0 p_in ∙ e ∙ sym a.0)
   ];
 }
+  where
+    p : ℕ
+    p = s * length g.entries.now + i
 
--- the last place of a loop
-pub at_end : (place len k n : ℕ) → len ≡ k → place ≤ len * n → len * n ≤ place → place ≡ k * n
-at_end place len k n e a b = let f : len * n ≡ k * n = ap (λ z. z * n) e in omega arith
+    within : i < length g.entries.now
+    within = omega (arith, is.long, i_in)
 
-pub AreNodes-done : (g : Grammar) (states : List (List ℕ)) (k : ℕ) (nodes : Nodes) → k ≡ length states * length g.entries.now → NodesBelow g states k nodes.places.items nodes.numbers.items → AreNodes g states nodes
-AreNodes-done g states k nodes e h = record {
-  long = h.long ∙ e;
-  places = subst (λ z. IsListOf z (HasPlace g states) nodes.places.items) e h.places_are;
+    p_in : p < length numbers
+    p_in = omega (arith, mul-add-lt s (length g.entries.now) i (length states) s_in within, h.long)
+
+-- after the last item of a state the next state begins
+pub NodesBelow-next : (g : Grammar) (states : List (List ℕ)) (s i : ℕ) (places numbers : List ℕ) → i ≡ length g.entries.now → NodesBelow g states (s * length g.entries.now + i) places numbers → NodesBelow g states ((s + 1) * length g.entries.now) places numbers
+NodesBelow-next g states s i places numbers e h = let f : s * length g.entries.now + i ≡ (s + 1) * length g.entries.now = omega arith in subst (λ k. NodesBelow g states k places numbers) f h
+
+pub AreNodes-done : (g : Grammar) (states : List (List ℕ)) (s : ℕ) (nodes : Nodes) → s ≡ length states → NodesBelow g states (s * length g.entries.now) nodes.places.items nodes.numbers.items → AreNodes g states nodes
+AreNodes-done g states s nodes e h = record {
+  long = h.long;
+  places = subst (λ z. IsListOf (z * length g.entries.now) (HasPlace g states) nodes.places.items) e h.places_are;
   numbers = h.numbers_are;
 }

@@ -2,7 +2,7 @@
 use Rattle.std.proofs.Common.{◌≡◌, ◌<◌, ◌≤◌, ◌+◌, ℕ, Bool, true, cond, IsTrue, List, [], ◌∷◌, ◌++◌, length, get_or, slice_index, take, drop, count_by, option_and_then, None, All, refl, sym, ap, ◌∙◌, subst, arith}
 use Rattle.std.specs.List.{Contains}
 use Rattle.std.specs.List.Sorted.{IsStrictlyIncreasing}
-use Rattle.std.proofs.lemmas.List.{take-append-drop, take-take}
+use Rattle.std.proofs.lemmas.List.{get_or-map, take-append-drop, take-take}
 use Rattle.std.proofs.lemmas.List.Elements.{Contains-append_left, All-contains}
 use Rattle.std.proofs.lemmas.List.Sums.{count_by_more_yes, sum_by-append}
 use Rattle.std.proofs.lemmas.Option.{slice_get-get_or, none-some}
@@ -13,7 +13,7 @@ use Rattle.lr_tables.specs.declared.grammar.Entry.TheVariants.{Left, Right}
 use Rattle.sc_items.specs.Reach.{marked}
 use Rattle.lr_tables.proofs.Members.{slice_some}
 use Rattle.sc_items.proofs.Listing.{IsCollected, IsCollected-kept, IsCollected-left, IsCollected-none, rising-collected, rising-none}
-use Rattle.sc_lalr.specs.Tables.{IsAtEnd}
+use Rattle.sc_lalr.specs.Tables.{AreEnds, IsAtEnd}
 
 -- ---- a later item has a later production
 count_take_le : {A : Type 0} (p : A → Bool) (xs : List A) (m n : ℕ) → m ≤ n → count_by p (take m xs) ≤ count_by p (take n xs)
@@ -71,3 +71,9 @@ MarkedSoFar-kept g marks numbers base k items found inc within ends k_in h is_ma
         let end = All-contains (IsAtEnd g) items i ends (take_member items k i w) in
         let less = production_less g i (get_or items k 0) end.none lower (within k 0 k_in) in
         omega (arith, less, r.1)
+
+-- the same, by the productions that were made of the items before
+pub MarkedSoFar-next : (g : Grammar) (marks : List Bool) (numbers : List ℕ) (base k : ℕ) (items produced found : List ℕ) → AreEnds g items produced → k < length items → MarkedSoFar g marks numbers base (take k items) found → IsTrue (marked marks (slice_index numbers (base + get_or items k 0))) → MarkedSoFar g marks numbers base (take (k + 1) items) (found ++ slice_index produced k ∷ [])
+MarkedSoFar-next g marks numbers base k items produced found ends k_in h is_marked =
+    let here : slice_index produced k ≡ production_at g (get_or items k 0) = ap (λ zs. slice_index zs k) ends.produced_are ∙ get_or-map (production_at g) items k 0 0 k_in in
+    rw here (MarkedSoFar-kept g marks numbers base k items found ends.rising ends.within ends.at_end k_in h is_marked)

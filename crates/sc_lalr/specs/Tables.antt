@@ -1,6 +1,7 @@
 -- The tables as the code keeps them.
-use Rattle.std.specs.Prelude.{◌≡◌, ◌+◌, ℕ, Bool, IsTrue, List, [], ◌∷◌, slice_get, slice_index, map, Option, Some, None, option_and_then, Vec}
+use Rattle.std.specs.Prelude.{◌≡◌, ◌<◌, ◌+◌, All, length, ℕ, Bool, IsTrue, List, [], ◌∷◌, slice_get, slice_index, map, Option, Some, None, option_and_then, Vec}
 use Rattle.std.specs.List.{Contains}
+use Rattle.std.specs.List.Sorted.{IsStrictlyIncreasing}
 use Rattle.std.specs.declared.alloc.Global.{Global}
 use Rattle.lr_tables.specs.Grammar.{after, production_at}
 use Rattle.lr_tables.specs.Tables as lr
@@ -70,3 +71,10 @@ conflicts_at s t None (p ∷ ps) = map (conflict_at s t (Reduce p)) ps
 -- the dot of the item stands at the end
 pub record IsAtEnd (g : Grammar) (i : ℕ) : Type 0 where
   pub none : after g i ≡ None
+
+-- these items have their dots at the end, and these are their productions
+pub record AreEnds (g : Grammar) (items produced : List ℕ) : Type 0 where
+  pub rising : IsStrictlyIncreasing items
+  pub within : All (λ item. item < length g.entries.now) items
+  pub at_end : All (IsAtEnd g) items
+  pub produced_are : produced ≡ map (production_at g) items

@@ -10,7 +10,7 @@ use crate::Tables;
 use crate::conflict::{kept, note_conflicts};
 use crate::lookahead::lookaheads;
 use crate::nodes::{Nodes, nodes_of};
-use crate::reduction::{ends, productions};
+use crate::reduction::{ends, produced, productions};
 use lr_tables::{Action, Conflict, Grammar, Terminal};
 use sc_base::OutOfMemory;
 use sc_items::States;
@@ -69,12 +69,13 @@ fn action_row(
     ensures conflicts { OnOk result (AreConflicts grammar.now (kernels_of states.now) (state + 1) 0 conflicts.new.items) }
 {
     let ends = ends(alloc, grammar, states, state)?;
+    let produced = produced(alloc, grammar, &ends)?;
     let mut row = Vec::new(alloc);
     for terminal in 0..grammar.terminals {
         let found = productions(
             alloc,
-            grammar,
             &ends,
+            &produced,
             &ahead[terminal],
             &nodes.numbers,
             state * grammar.entries.len(),

@@ -15,7 +15,7 @@ use std::alloc::Global;
 pub struct Nodes {
     /// Of each node its place.
     pub places: Vec<usize>,
-    /// Of each place the number of its node, where it has one.
+    /// Of each place the number of its node, where it has one, or else 0.
     pub numbers: Vec<usize>,
 }
 
@@ -27,11 +27,13 @@ pub fn nodes_of(alloc: Global, grammar: &Grammar, states: &States) -> Result<Nod
 {
     let n = grammar.entries.len();
     let mut places = Vec::new(alloc);
-    let mut numbers = Vec::new(alloc);
-    for place in 0..states.len() * n {
-        numbers.push(places.len())?;
-        if states.has(place / n, place % n) {
-            places.push(place)?;
+    let mut numbers = vec![in alloc; 0; states.len() * n]?;
+    for state in 0..states.len() {
+        for (item, is_in) in states.rows[state].items.iter().enumerate() {
+            if *is_in {
+                numbers[state * n + item] = places.len();
+                places.push(state * n + item)?;
+            }
         }
     }
     Ok(Nodes { places, numbers })

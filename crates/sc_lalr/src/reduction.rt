@@ -1,11 +1,12 @@
 //! The reductions of a state.
-ghost use Rattle.std.specs.Prelude.{◌<◌, ◌+◌, ◌↔◌, ℕ, length, slice_index, IfOk, All};
+ghost use Rattle.std.specs.Prelude.{◌≡◌, ◌<◌, ◌+◌, ◌↔◌, ℕ, length, map, slice_index, IfOk, All};
 ghost use Rattle.std.specs.List.{Contains};
 ghost use Rattle.std.specs.List.Sorted.{IsStrictlyIncreasing};
-ghost use Rattle.lr_tables.specs.Grammar.{IsGrammar};
+ghost use Rattle.lr_tables.specs.Grammar.{IsGrammar, production_at};
+ghost use Rattle.lr_tables.specs.declared.grammar.Grammar.{Grammar};
 ghost use Rattle.sc_items.specs.Kernel.{IsListOf};
 ghost use Rattle.sc_items.specs.States.{AreStates, kernels_of};
-ghost use Rattle.sc_lalr.specs.Tables.{EndsIn, IsAtEnd, IsMarkedEnd};
+ghost use Rattle.sc_lalr.specs.Tables.{AreEnds, EndsIn, IsMarkedEnd};
 
 use lr_tables::Grammar;
 use sc_base::OutOfMemory;
@@ -21,11 +22,12 @@ pub fn ends(
 ) -> Result<Vec<usize>, OutOfMemory>
     requires grammar { IsGrammar grammar.now }
     requires states { AreStates grammar.now states.now }
+    requires state { state < length (kernels_of states.now) }
     ensures { IfOk result (λ items. IsListOf (length grammar.now.entries.now) (EndsIn grammar.now (kernels_of states.now) state) items.items) }
 {
     let mut items = Vec::new(alloc);
-    for item in 0..grammar.entries.len() {
-        if states.has(state, item) {
+    for (item, is_in) in states.rows[state].items.iter().enumerate() {
+        if *is_in {
             if after(grammar, item).is_none() {
                 items.push(item)?;
             }
@@ -34,28 +36,42 @@ pub fn ends(
     Ok(items)
 }
 
-/// The productions of the marked ones of these items.
-pub fn productions(
+/// The productions of these items.
+pub fn produced(
     alloc: Global,
     grammar: &Grammar,
     items: &[usize],
+) -> Result<Vec<usize>, OutOfMemory>
+    requires { All (λ item. item < length grammar.now.entries.now) items.now }
+    ensures { IfOk result (λ produced. produced.items ≡ map (production_at grammar.now) items.now) }
+{
+    let mut produced = Vec::new(alloc);
+    for item in items {
+        produced.push(production_at(grammar, *item))?;
+    }
+    Ok(produced)
+}
+
+/// The productions of the marked ones of these items, of which the productions are given.
+pub fn productions(
+    alloc: Global,
+    items: &[usize],
+    produced: &[usize],
     marks: &[bool],
     numbers: &[usize],
     base: usize,
 ) -> Result<Vec<usize>, OutOfMemory>
-    requires grammar { IsGrammar grammar.now }
-    requires rising { IsStrictlyIncreasing items.now }
-    requires within { All (λ item. item < length grammar.now.entries.now) items.now }
-    requires at_end { All (IsAtEnd grammar.now) items.now }
+    requires produced { length produced.now ≡ length items.now }
     requires numbers { All (λ item. base + item < length numbers.now) items.now }
     requires marks { All (λ item. slice_index numbers.now (base + item) < length marks.now) items.now }
-    ensures rising { IfOk result (λ found. IsStrictlyIncreasing found.items) }
-    ensures exact { IfOk result (λ found. (p : ℕ) → Contains found.items p ↔ IsMarkedEnd grammar.now marks.now numbers.now base items.now p) }
+    ensures rising { IfOk result (λ found. (g : Grammar) → AreEnds g items.now produced.now → IsStrictlyIncreasing found.items) }
+    ensures exact { IfOk result (λ found. (g : Grammar) → AreEnds g items.now produced.now
+        → (p : ℕ) → Contains found.items p ↔ IsMarkedEnd g marks.now numbers.now base items.now p) }
 {
     let mut found = Vec::new(alloc);
-    for item in items {
+    for (index, item) in items.iter().enumerate() {
         if marks[numbers[base + *item]] {
-            found.push(production_at(grammar, *item))?;
+            found.push(produced[index])?;
         }
     }
     Ok(found)

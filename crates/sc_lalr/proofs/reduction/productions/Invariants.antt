@@ -1,6 +1,8 @@
 use Rattle.std.proofs.Common.{take}
+use Rattle.lr_tables.specs.declared.grammar.Grammar.{Grammar}
+use Rattle.sc_lalr.specs.Tables.{AreEnds}
 use Rattle.sc_lalr.proofs.Reducing.{MarkedSoFar}
 use Rattle.sc_lalr.proofs.reduction.productions.Given as goal
 
-abbrev pub invariant-loop-item : goal.invariant-loop-item
-invariant-loop-item l = MarkedSoFar l.grammar l.marks l.numbers l.base (take l.item-index l.items) l.found.items
+abbrev pub invariant-loop-index : goal.invariant-loop-index
+invariant-loop-index l = (g : Grammar) → AreEnds g l.items l.produced → MarkedSoFar g l.marks l.numbers l.base (take l.index l.items) l.found.items
