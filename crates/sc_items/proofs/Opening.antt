@@ -4,13 +4,13 @@ use Rattle.std.specs.List.Sorted.{IsStrictlyIncreasing}
 use Rattle.std.specs.declared.alloc.Global.{Global}
 use Rattle.std.proofs.lemmas.List.{length_push}
 use Rattle.std.proofs.lemmas.List.Elements.{Contains-get_or}
-use Rattle.std.proofs.lemmas.Option.{slice_get_within, slice_get-get_or, option_and_then_some}
+use Rattle.std.proofs.lemmas.Option.{same_Some, slice_get_within, slice_get-get_or, option_and_then_some}
 use Rattle.lr_tables.specs.Grammar.{after, begun, left_in, right_in}
 use Rattle.lr_tables.specs.declared.grammar.Grammar.{Grammar}
 use Rattle.sc_base.proofs.Growth.{push_cases}
 use Rattle.lr_tables.proofs.Members.{slice_some}
 use Rattle.sc_items.specs.Reach.{Edge, EdgesWithin}
-use Rattle.sc_items.specs.Kernel.{IsListOf, Opens, IsOpened}
+use Rattle.sc_items.specs.Kernel.{Begins, IsListOf, Opens, IsOpened}
 use Rattle.sc_items.proofs.Listing.{IsCollected, IsCollected-kept, IsCollected-left, IsCollected-none, rising-collected, rising-none}
 
 -- what holds of each entry at its place, with one entry more
@@ -20,6 +20,26 @@ each-push P xs y n long each one i x at = elim (push_cases xs y i x at) [
   | inl a ↦ each i x a
   | inr e ↦ subst (P i) e.1 (subst (λ k. P k y) (sym (e.0 ∙ long)) one)
 ]
+
+-- ---- the beginnings of the productions of the first symbols
+pub record BeginningsBelow (g : Grammar) (n : ℕ) (rows : List (Vec ℕ Global)) : Type 0 where
+  pub long : length rows ≡ n
+  pub each : (x : ℕ) (row : Vec ℕ Global) → slice_get rows x ≡ Some row → IsListOf (length g.entries.now) (Begins g x) row.items
+
+pub BeginningsBelow-push : (g : Grammar) (n : ℕ) (rows : List (Vec ℕ Global)) (row : Vec ℕ Global) → BeginningsBelow g n rows → IsListOf (length g.entries.now) (Begins g n) row.items → BeginningsBelow g (n + 1) (rows ++ row ∷ [])
+BeginningsBelow-push g n rows row h one = record {
+  long = length_push rows row ∙ ap (λ k. k + 1) h.long;
+  each = each-push (λ x (r : Vec ℕ Global). IsListOf (length g.entries.now) (Begins g x) r.items) rows row n h.long h.each one;
+}
+
+-- an item opens the beginnings of the productions of the symbol after its dot
+pub opens_beginnings : (g : Grammar) (i x n : ℕ) (items : List ℕ) → after g i ≡ Some x → IsListOf n (Begins g x) items → IsListOf n (Opens g i) items
+opens_beginnings g i x n items over h = record {
+  rising = h.rising;
+  below = h.below;
+  sound = λ j w. record { symbol = x; over = over; begins = (h.sound j w).begins };
+  complete = λ j j_in o. h.complete j j_in (record { begins = o.begins ∙ ap (λ y. Some y) (same_Some o.symbol x (sym o.over ∙ over)) });
+}
 
 -- ---- what each item opens
 pub record IsOpenedBelow (g : Grammar) (n : ℕ) (rows : List (Vec ℕ Global)) : Type 0 where

@@ -14,6 +14,15 @@ pub record IsListOf (n : ℕ) (P : ℕ → Type 0) (xs : List ℕ) : Type 0 wher
   pub sound : (i : ℕ) → Contains xs i → P i
   pub complete : (i : ℕ) → i < n → P i → Contains xs i
 
+-- the item begins a production of the symbol
+pub record Begins (g : Grammar) (x i : ℕ) : Type 0 where
+  pub begins : begun g i ≡ Some x
+
+-- the rows are, for each symbol, the items that begin its productions
+pub record AreBeginnings (g : Grammar) (rows : List (Vec ℕ Global)) : Type 0 where
+  pub long : length rows ≡ g.terminals + g.nonterminals
+  pub each : (x : ℕ) (row : Vec ℕ Global) → slice_get rows x ≡ Some row → IsListOf (length g.entries.now) (Begins g x) row.items
+
 -- item j begins a production of the symbol after the dot of item i
 pub record Opens (g : Grammar) (i j : ℕ) : Type 0 where
   pub symbol : ℕ

@@ -3,7 +3,7 @@ ghost use Rattle.std.specs.Prelude.{◌<◌, ◌↔◌, ℕ, length, IfOk, All, 
 ghost use Rattle.std.specs.List.{Contains};
 ghost use Rattle.std.specs.List.Sorted.{IsStrictlyIncreasing};
 ghost use Rattle.lr_tables.specs.Grammar.{IsGrammar, IsStart};
-ghost use Rattle.sc_items.specs.Kernel.{AreNext, IsListOf, IsNumbered, IsOpened, Opens, MovedIn, lists};
+ghost use Rattle.sc_items.specs.Kernel.{AreBeginnings, AreNext, Begins, IsListOf, IsNumbered, IsOpened, Opens, MovedIn, lists};
 ghost use Rattle.sc_items.specs.Reach.{marked, EdgesWithin};
 
 use crate::{after, begun, production_at};
@@ -18,16 +18,23 @@ pub fn opened(alloc: Global, grammar: &Grammar) -> Result<Vec<Vec<usize>>, OutOf
     ensures rows { IfOk result (λ rows. IsOpened grammar.now rows.items) }
     ensures within { IfOk result (λ rows. EdgesWithin rows.items) }
 {
+    let beginnings = beginnings(alloc, grammar)?;
     let mut rows = Vec::new(alloc);
     for item in 0..grammar.entries.len() {
-        rows.push(opened_by(alloc, grammar, item)?)?;
+        rows.push(opened_by(alloc, grammar, &beginnings, item)?)?;
     }
     Ok(rows)
 }
 
 /// The items that begin a production of the symbol after the dot of this item.
-fn opened_by(alloc: Global, grammar: &Grammar, item: usize) -> Result<Vec<usize>, OutOfMemory>
+fn opened_by(
+    alloc: Global,
+    grammar: &Grammar,
+    beginnings: &[Vec<usize>],
+    item: usize,
+) -> Result<Vec<usize>, OutOfMemory>
     requires grammar { IsGrammar grammar.now }
+    requires beginnings { AreBeginnings grammar.now beginnings.now }
     requires within { item < length grammar.now.entries.now }
     ensures { IfOk result (λ items. IsListOf (length grammar.now.entries.now) (Opens grammar.now item) items.items) }
 {
@@ -35,10 +42,32 @@ fn opened_by(alloc: Global, grammar: &Grammar, item: usize) -> Result<Vec<usize>
     let Some(symbol) = after(grammar, item) else {
         return Ok(items);
     };
-    for begin in 0..grammar.entries.len() {
-        if let Some(left) = begun(grammar, begin) {
+    items.extend_from_slice(&beginnings[symbol])?;
+    Ok(items)
+}
+
+/// For each symbol the items that begin its productions.
+fn beginnings(alloc: Global, grammar: &Grammar) -> Result<Vec<Vec<usize>>, OutOfMemory>
+    requires { IsGrammar grammar.now }
+    ensures { IfOk result (λ rows. AreBeginnings grammar.now rows.items) }
+{
+    let mut rows = Vec::new(alloc);
+    for symbol in 0..grammar.terminals + grammar.nonterminals {
+        rows.push(beginning(alloc, grammar, symbol)?)?;
+    }
+    Ok(rows)
+}
+
+/// The items that begin a production of this symbol.
+fn beginning(alloc: Global, grammar: &Grammar, symbol: usize) -> Result<Vec<usize>, OutOfMemory>
+    requires { IsGrammar grammar.now }
+    ensures { IfOk result (λ items. IsListOf (length grammar.now.entries.now) (Begins grammar.now symbol) items.items) }
+{
+    let mut items = Vec::new(alloc);
+    for item in 0..grammar.entries.len() {
+        if let Some(left) = begun(grammar, item) {
             if left == symbol {
-                items.push(begin)?;
+                items.push(item)?;
             }
         }
     }
