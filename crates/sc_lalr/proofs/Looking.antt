@@ -15,7 +15,7 @@ use Rattle.sc_items.specs.Kernel.{IsOpened, Opens}
 use Rattle.sc_items.specs.States.{HasItem}
 use Rattle.sc_items.proofs.Listing.{IsCollected}
 use Rattle.sc_items.proofs.Opening.{each-push, begun_within, after_within}
-use Rattle.sc_lalr.specs.Propagation.{AreNodes, IsNode, Passes, along, into, PassesTo, IsPropagation, HasPlace, IsFollowed, IsSource, AreSources, IsSpontaneous, PlaceFits, numbers_at, row_at, seed_part}
+use Rattle.sc_lalr.specs.Propagation.{AreNodes, IsNode, Passes, along, into, PassesTo, IsPropagation, HasPlace, IsFollowed, IsSource, AreSources, IsSpontaneous, PlaceFits, behind_of, numbers_at, opened_part, row_at, seed_part}
 use Rattle.sc_lalr.specs.declared.nodes.Nodes.{Nodes}
 use Rattle.sc_lalr.proofs.Placing.{some_entries, place_same, place_at, place_in, has_at, node_same, node_in, node_number, node_of}
 use Rattle.sc_lalr.proofs.Passing.{flat_to, flat_from, row_opens, passes_has}
@@ -28,12 +28,20 @@ row_at_is rows i row at = ap (λ o. option_map_or (λ (r : Vec ℕ Global). r.it
 seed_at : Grammar → List ℕ → List (Vec ℕ Global) → List Bool → ℕ → ℕ → List ℕ
 seed_at g numbers rows begin p y = cond (marked begin y) (numbers_at numbers (p / length g.entries.now * length g.entries.now) (row_at rows (p % length g.entries.now))) []
 
-pub seed_is : (g : Grammar) (numbers : List ℕ) (rows : List (Vec ℕ Global)) (begin : List Bool) (p y : ℕ) (row : Vec ℕ Global) (view : List ℕ) → after g (p % length g.entries.now + 1) ≡ Some y → marked begin y ≡ true → slice_get rows (p % length g.entries.now) ≡ Some row → view ≡ row.items → seed_part g numbers rows begin p ≡ numbers_at numbers (p / length g.entries.now * length g.entries.now) view
+pub opened_is : (g : Grammar) (numbers : List ℕ) (rows : List (Vec ℕ Global)) (p : ℕ) (row : Vec ℕ Global) (view : List ℕ) → slice_get rows (p % length g.entries.now) ≡ Some row → view ≡ row.items → opened_part g numbers rows p ≡ numbers_at numbers (p / length g.entries.now * length g.entries.now) view
+opened_is g numbers rows p row view at f = ap (numbers_at numbers (p / length g.entries.now * length g.entries.now)) (row_at_is rows (p % length g.entries.now) row at ∙ sym f)
+
+pub seed_yes : (g : Grammar) (numbers : List ℕ) (rows : List (Vec ℕ Global)) (begin : List Bool) (p y : ℕ) → behind_of g p ≡ Some y → marked begin y ≡ true → seed_part g numbers rows begin p ≡ opened_part g numbers rows p
 unfolding seed_at
-seed_is g numbers rows begin p y row view e m at f =
-    ap (λ o. option_map_or (seed_at g numbers rows begin p) o []) e
-    ∙ ap (λ b. cond b (numbers_at numbers (p / length g.entries.now * length g.entries.now) (row_at rows (p % length g.entries.now))) []) m
-    ∙ ap (numbers_at numbers (p / length g.entries.now * length g.entries.now)) (row_at_is rows (p % length g.entries.now) row at ∙ sym f)
+seed_yes g numbers rows begin p y e m = ap (λ o. option_map_or (seed_at g numbers rows begin p) o []) e ∙ ap (λ b. cond b (opened_part g numbers rows p) []) m
+
+pub seed_no : (g : Grammar) (numbers : List ℕ) (rows : List (Vec ℕ Global)) (begin : List Bool) (p y : ℕ) → behind_of g p ≡ Some y → marked begin y ≡ false → seed_part g numbers rows begin p ≡ []
+unfolding seed_at
+seed_no g numbers rows begin p y e m = ap (λ o. option_map_or (seed_at g numbers rows begin p) o []) e ∙ ap (λ b. cond b (opened_part g numbers rows p) []) m
+
+pub seed_none : (g : Grammar) (numbers : List ℕ) (rows : List (Vec ℕ Global)) (begin : List Bool) (p : ℕ) → behind_of g p ≡ None → seed_part g numbers rows begin p ≡ []
+unfolding seed_at
+seed_none g numbers rows begin p e = ap (λ o. option_map_or (seed_at g numbers rows begin p) o []) e
 
 record Seeds (g : Grammar) (numbers : List ℕ) (rows : List (Vec ℕ Global)) (begin : List Bool) (p v : ℕ) : Type 0 where
   next : ℕ
@@ -103,7 +111,7 @@ module _ (g : Grammar) (states : List (List ℕ)) (nodes : Nodes) (t : ℕ) (row
       let row = slice_some rows (p % length g.entries.now) i_in in
       let opens : Opens g (p % length g.entries.now) h.j = record { symbol = source.followed.x; over = subst (λ z. after g z ≡ Some source.followed.x) same.1 source.followed.over; begins = h.begins } in
       let in_row = (row_opens g rows (p % length g.entries.now) row.0 row.0.items rows_are row.1 refl h.j).1 opens in
-      let part = seed_is g nodes.numbers.items rows begin p source.followed.y row.0 row.0.items (subst (λ z. after g (z + 1) ≡ Some source.followed.y) same.1 source.followed.next) ((begin_is source.followed.y).1 h.first) row.1 refl in
+      let part = seed_yes g nodes.numbers.items rows begin p source.followed.y (subst (λ z. after g (z + 1) ≡ Some source.followed.y) same.1 source.followed.next) ((begin_is source.followed.y).1 h.first) ∙ opened_is g nodes.numbers.items rows p row.0 row.0.items row.1 refl in
       let here : v ≡ slice_index nodes.numbers.items (p / length g.entries.now * length g.entries.now + h.j) = node_number g states nodes nodes_are v source.s h.j h.to ∙ ap (λ z. slice_index nodes.numbers.items (z * length g.entries.now + h.j)) same.0 in
       let seeded : Contains (seed_part g nodes.numbers.items rows begin p) v = rw (part, here) (map_has (λ j. slice_index nodes.numbers.items (p / length g.entries.now * length g.entries.now + j)) h.j row.0.items in_row) in
       subst (λ zs. Contains zs v) (sym starts_are) (flat_from (seed_part g nodes.numbers.items rows begin) v p sources (sources_are.complete p source) seeded)

@@ -116,14 +116,17 @@ pub record AreLookaheads (g : Grammar) (states : List (List ℕ)) (nodes : Nodes
 abbrev pub row_at : List (Vec ℕ Global) → ℕ → List ℕ
 row_at rows i = option_map_or (λ (row : Vec ℕ Global). row.items) (slice_get rows i) []
 
--- the items that the item with this place opens, where a text that may follow there begins with the
--- terminal of these marks
+-- the symbol behind the symbol after the dot of the item with this place
+abbrev pub behind_of : Grammar → ℕ → Option ℕ
+behind_of g p = after g (p % length g.entries.now + 1)
+
+-- the nodes of the items that the item with this place opens
+abbrev pub opened_part : Grammar → List ℕ → List (Vec ℕ Global) → ℕ → List ℕ
+opened_part g numbers opened p = numbers_at numbers (p / length g.entries.now * length g.entries.now) (row_at opened (p % length g.entries.now))
+
+-- the same, where a text that may follow there begins with the terminal of these marks
 abbrev pub seed_part : Grammar → List ℕ → List (Vec ℕ Global) → List Bool → ℕ → List ℕ
-seed_part g numbers opened begin p =
-    option_map_or
-    (λ y. if marked begin y then numbers_at numbers (p / length g.entries.now * length g.entries.now) (row_at opened (p % length g.entries.now)) else [])
-    (after g (p % length g.entries.now + 1))
-    []
+seed_part g numbers opened begin p = option_map_or (λ y. if marked begin y then opened_part g numbers opened p else []) (behind_of g p) []
 
 -- each item of the place's state has a number
 pub record PlaceFits (n count p : ℕ) : Type 0 where

@@ -1,10 +1,10 @@
 //! Lookaheads.
-ghost use Rattle.std.specs.Prelude.{◌≡◌, ◌<◌, ◌↔◌, ◌+◌, ◌++◌, ℕ, List, length, IfOk, OnOk, All, IsTrue};
+ghost use Rattle.std.specs.Prelude.{◌≡◌, ◌<◌, ◌↔◌, ◌+◌, ◌%◌, ◌++◌, ℕ, List, length, map, IfOk, OnOk, All, IsTrue};
 ghost use Rattle.std.specs.List.{flat_map};
 ghost use Rattle.lr_tables.specs.Grammar.{IsGrammar};
 ghost use Rattle.sc_items.specs.Kernel.{IsOpened};
 ghost use Rattle.sc_items.specs.States.{AreStates, kernels_of};
-ghost use Rattle.sc_lalr.specs.Propagation.{AreNodes, HavePlaces, AreSources, AreLookaheads, IsFollowed, PlaceFits, seed_part};
+ghost use Rattle.sc_lalr.specs.Propagation.{AreNodes, HavePlaces, AreSources, AreLookaheads, IsFollowed, PlaceFits, behind_of, opened_part, seed_part};
 
 use crate::first::{beginners, leading};
 use crate::nodes::Nodes;
@@ -29,11 +29,20 @@ pub fn lookaheads(
     let opened = opened(alloc, grammar)?;
     let leading = leading(alloc, grammar)?;
     let sources = sources(alloc, grammar, nodes)?;
+    let behind = behind(alloc, grammar, &sources)?;
     let edges = propagation(alloc, grammar, states, nodes, &opened)?;
     let mut rows = Vec::new(alloc);
     for terminal in 0..grammar.terminals {
         let begin = beginners(alloc, &leading, terminal)?;
-        let starts = spontaneous(alloc, grammar, &nodes.numbers, &opened, &sources, &begin)?;
+        let starts = spontaneous(
+            alloc,
+            grammar,
+            &nodes.numbers,
+            &opened,
+            &sources,
+            &behind,
+            &begin,
+        )?;
         rows.push(reachable(alloc, &edges, &starts)?)?;
     }
     Ok(rows)
@@ -52,6 +61,23 @@ fn sources(alloc: Global, grammar: &Grammar, nodes: &Nodes) -> Result<Vec<usize>
         }
     }
     Ok(sources)
+}
+
+/// The symbols behind the symbols after the dots of the items with these places.
+fn behind(
+    alloc: Global,
+    grammar: &Grammar,
+    sources: &[usize],
+) -> Result<Vec<Option<usize>>, OutOfMemory>
+    requires grammar { IsGrammar grammar.now }
+    requires within { All (λ p. p % length grammar.now.entries.now < length grammar.now.entries.now) sources.now }
+    ensures { IfOk result (λ symbols. symbols.items ≡ map (behind_of grammar.now) sources.now) }
+{
+    let mut symbols = Vec::new(alloc);
+    for source in sources {
+        symbols.push(after(grammar, *source % grammar.entries.len() + 1))?;
+    }
+    Ok(symbols)
 }
 
 /// Whether a symbol stands behind the symbol after the dot.
@@ -74,41 +100,42 @@ fn spontaneous(
     numbers: &[usize],
     opened: &[Vec<usize>],
     sources: &[usize],
+    behind: &[Option<usize>],
     begin: &[bool],
 ) -> Result<Vec<usize>, OutOfMemory>
     requires grammar { IsGrammar grammar.now }
     requires opened { IsOpened grammar.now opened.now }
     requires fits { All (PlaceFits (length grammar.now.entries.now) (length numbers.now)) sources.now }
+    requires behind { behind.now ≡ map (behind_of grammar.now) sources.now }
     requires begin { length begin.now ≡ grammar.now.terminals + grammar.now.nonterminals }
     ensures { IfOk result (λ nodes. nodes.items ≡ flat_map (seed_part grammar.now numbers.now opened.now begin.now) sources.now) }
 {
     let mut nodes = Vec::new(alloc);
-    for source in sources {
-        seeded(&mut nodes, grammar, numbers, opened, begin, *source)?;
+    for (index, source) in sources.iter().enumerate() {
+        match behind[index] {
+            None => {}
+            Some(next) => {
+                if begin[next] {
+                    seeded(&mut nodes, grammar, numbers, opened, *source)?;
+                }
+            }
+        }
     }
     Ok(nodes)
 }
 
-/// Adds what the item with this place opens, where a text that may follow there begins with the
-/// terminal.
+/// Adds what the item with this place opens.
 fn seeded(
     nodes: &mut Vec<usize>,
     grammar: &Grammar,
     numbers: &[usize],
     opened: &[Vec<usize>],
-    begin: &[bool],
     source: usize,
 ) -> Result<(), OutOfMemory>
-    requires grammar { IsGrammar grammar.now }
     requires opened { IsOpened grammar.now opened.now }
     requires fits { PlaceFits (length grammar.now.entries.now) (length numbers.now) source }
-    requires begin { length begin.now ≡ grammar.now.terminals + grammar.now.nonterminals }
-    ensures { OnOk result (nodes.new.items ≡ nodes.old.items ++ seed_part grammar.now numbers.now opened.now begin.now source) }
+    ensures { OnOk result (nodes.new.items ≡ nodes.old.items ++ opened_part grammar.now numbers.now opened.now source) }
 {
     let n = grammar.entries.len();
-    let item = source % n;
-    match after(grammar, item + 1) {
-        Some(next) if begin[next] => numbered(nodes, numbers, (source / n) * n, &opened[item]),
-        _ => Ok(()),
-    }
+    numbered(nodes, numbers, (source / n) * n, &opened[source % n])
 }
