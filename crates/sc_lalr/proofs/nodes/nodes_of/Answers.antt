@@ -1,9 +1,8 @@
-use Rattle.std.proofs.Common.{◌≡◌, ◌<◌, ◌+◌, ◌*◌, ℕ, List, length, get_or, ap, ◌∙◌, sym, arith, subst}
+use Rattle.std.proofs.Common.{◌≡◌, ◌<◌, ◌*◌, length, ap, ◌∙◌, sym, arith, subst}
 use Rattle.std.proofs.lemmas.Bool.{false≢true}
-use Rattle.std.proofs.lemmas.List.{length-replicate}
 use Rattle.std.proofs.lemmas.Nat.{mul-add-lt}
 use Rattle.sc_items.specs.States.{kernels_of}
-use Rattle.sc_lalr.proofs.Placing.{IsRow, row_of_state, NodesBelow, NodesBelow-none, NodesBelow-kept, NodesBelow-left, NodesBelow-next, AreNodes-done}
+use Rattle.sc_lalr.proofs.Placing.{row_of_state, NodesBelow, NodesBelow-none, NodesBelow-kept, NodesBelow-left, NodesBelow-next, AreNodes-done}
 use Rattle.sc_lalr.proofs.nodes.nodes_of.Goals as goal
 use Rattle.sc_lalr.proofs.nodes.nodes_of.Goals.{then-is_in+in_ok-push, else-is_in}
 

@@ -1,9 +1,9 @@
-use Rattle.std.proofs.Common.{◌≡◌, ◌<◌, ℕ, length, false, Option, Some, None, is_some, ap, ◌∙◌, sym, arith, refl}
+use Rattle.std.proofs.Common.{◌≡◌, ℕ, length, false, Option, Some, None, is_some, ap, ◌∙◌, sym, arith, refl}
 use Rattle.std.proofs.lemmas.Bool.{false≢true}
 use Rattle.sc_items.specs.States.{kernels_of}
 use Rattle.sc_items.proofs.Listing.{IsListOf-kept, IsListOf-left, IsListOf-done}
 use Rattle.sc_lalr.specs.Tables.{EndsIn}
-use Rattle.sc_lalr.proofs.Placing.{IsRow, row_of_state}
+use Rattle.sc_lalr.proofs.Placing.{row_of_state}
 use Rattle.sc_lalr.proofs.reduction.ends.Goals as goal
 use Rattle.sc_lalr.proofs.reduction.ends.Goals.{then-is_in+then-is_none+in_ok-push, then-is_in+else-is_none, else-is_in}
 

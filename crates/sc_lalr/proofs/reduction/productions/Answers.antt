@@ -1,4 +1,4 @@
-use Rattle.std.proofs.Common.{◌≡◌, ◌≤◌, ℕ, Bool, List, length, take, ◌∙◌, sym, subst}
+use Rattle.std.proofs.Common.{◌≤◌, ℕ, Bool, List, length, take, ◌∙◌, sym, subst}
 use Rattle.std.proofs.lemmas.List.{take_all}
 use Rattle.std.proofs.lemmas.Bool.{false≢true}
 use Rattle.lr_tables.specs.declared.grammar.Grammar.{Grammar}
