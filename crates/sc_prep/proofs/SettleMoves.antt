@@ -15,7 +15,7 @@ use Rattle.sc_expand.specs.Settling.{IsHeldSettled, IsSettled}
 use Rattle.sc_model.specs.Token.{Place, Token}
 use Rattle.sc_prep.proofs.ApartLemmas.{apart-right, gathers-then}
 use Rattle.sc_prep.proofs.CloseMoves.{empty-seen, plain-by, plain-seen, some-seen}
-use Rattle.sc_prep.proofs.Facts.{All-append, All-nil, Keeps-trans, and_parts, Extends-refl, IsConfig-Keeps, IsConfig-kept, IsTable-Extends, IsTable-Keeps, faults_at-Keeps, items-bared, items_at-Keeps, macros_at-Extends, macros_at-Keeps}
+use Rattle.sc_prep.proofs.Facts.{All-append, All-nil, Keeps-trans, and_parts, Extends-refl, IsConfig-Keeps, IsConfig-kept, IsTable-Extends, IsTable-Keeps, faults_at-Keeps, faults_at-append, items-bared, items_at-Keeps, macros_at-Extends, macros_at-Keeps}
 use Rattle.sc_prep.proofs.Grown.{held-grown, plain-grown, shown-before, simulates-grown}
 use Rattle.sc_prep.proofs.LeftRuns.{left-settled}
 use Rattle.sc_prep.proofs.Plain.{settles-plain, text-plain}
@@ -24,7 +24,7 @@ use Rattle.sc_prep.proofs.PragmaMoves.{awaits-kept}
 use Rattle.sc_prep.proofs.RunLemmas.{part-All}
 use Rattle.sc_prep.proofs.SettledText.{settled-expands, text-as, text-awaits, text-held, text-refused, text-settles}
 use Rattle.sc_prep.proofs.Stopping.{stops-as}
-use Rattle.sc_prep.proofs.Terms.{AllPass, Awaited, AwaitsAt, Comes, Cond, Denotes, Expands, Extends, Failure, Forgets, HasSettled, HasText, Hidden, IsAsked, IsCond, IsConfig, IsHeldHidden, IsHeldWalk, IsPlainState, IsPlaced, IsStored, IsTable, Keeps, KeepsSettled, LineStage, Machine, Macros, Name, OpenRuns, Owns, PlainEach, Provenance, Sets, Settled, Settles, Simulates, StandApart, Stop, StopsAtPlace, StopsBy, StopsStage, Walk, any_machine, any_token, awaits, faults_at, has_none, held_at, hidden_at, is_empty, is_plain, items_at, macros_at, outside, place_alone, seen, seen_hidden, seen_place, token_of, tokens_read, tokens_within}
+use Rattle.sc_prep.proofs.Terms.{AllHaveSettled, AllPass, Awaited, AwaitsAt, Comes, Cond, Denotes, Expands, Extends, Failure, Forgets, HasSettled, HasText, Hidden, IsAsked, IsCond, IsConfig, IsHeldHidden, IsHeldWalk, IsPlainState, IsPlaced, IsSettledAt, IsStored, IsTable, Keeps, KeepsSettled, LineStage, Machine, Macros, Name, OpenRuns, Owns, PlainEach, Provenance, Sets, Settled, Settles, Simulates, StandApart, Stop, StopsAtPlace, StopsBy, StopsStage, Walk, any_machine, any_token, awaits, faults_at, has_none, held_at, hidden_at, is_empty, is_plain, items_at, macros_at, outside, place_alone, seen, seen_hidden, seen_place, token_of, tokens_read, tokens_within}
 use Rattle.sc_prep.proofs.Texts.{held_at-append, hidden-grown, items_at-All, hidden_at-append, items_seen-append}
 use Rattle.sc_prep.proofs.WalkMoves.{owns-kept, simulates-kept}
 use Rattle.sc_prep.specs.Gathered.{forgets, keeps_all}
@@ -79,6 +79,10 @@ seen_text names files ts = map (seen names files) ts
 empty-none : {A : Type 0} (xs : List A) → is_empty xs ≡ true → xs ≡ []
 empty-none [] e = refl
 empty-none (x ∷ xs) e = absurd (cc)
+
+empty-left : {A : Type 0} (xs ys : List A) → is_empty (xs ++ ys) ≡ true → is_empty xs ≡ true
+empty-left [] ys e = refl
+empty-left (x ∷ xs) ys e = e
 
 some-faults : (files : List (List ℕ)) (fs : List base.Fault) → map (moved_failure (seen_place files)) (map seen_failure fs) ≡ [] → is_empty fs ≡ false → ⊥
 some-faults files [] e some = true≢false some
@@ -290,8 +294,8 @@ module _ (files : List (List ℕ)) {names more : List (List ℕ)} {old mid new :
         ⊎ ((held_at new files next.runs.held.items c ≡ [])
         × Expands place_alone (macros_at old names w.table c) (hidden_at new more files hides next.runs.gathered c) (closed (hidden_at new more files hides next.runs.gathered c)))
 
-    ends-here : old.has w.acting.0 c ≡ true → (a : Bool) → old.has asked.0 c ≡ a → EndsHere
-    ends-here acting true here = by (old.has asked.0 c) here (settles.is c listed)
+    ends-asked : old.has asked.0 c ≡ true → EndsHere
+    ends-asked here = by (old.has asked.0 c) here (settles.is c listed)
       where
         all-shown : hidden_at new more files hides next.runs.gathered c ≡ shown (items_at mid s.rest c)
         all-shown = gathered-now true true here (ask.within c listed here) ∙ append-nil (shown (items_at mid s.rest c))
@@ -305,6 +309,9 @@ module _ (files : List (List ℕ)) {names more : List (List ℕ)} {old mid new :
               (settled-expands (macros_at old names w.table c) (settles-moved (seen_place files) (places-kept files) (macros_at old names w.table c) d)),
         )
         by b is (running.refused failure one left d) = inl (all-shown ∙ ap (map (moved (seen_place files))) left)
+
+    ends-here : old.has w.acting.0 c ≡ true → (a : Bool) → old.has asked.0 c ≡ a → EndsHere
+    ends-here acting true here = ends-asked here
     ends-here acting false idle =
         inl (gathered-now false false idle (not-live (old.has live.0 c) refl) ∙ (append-nil (shown (items_at mid s.rest c)) ∙ ap (map (moved (seen_place files))) (idle-nothing idle (settles.is c listed)).1))
       where
@@ -379,15 +386,32 @@ module _ (files : List (List ℕ)) {names more : List (List ℕ)} {old mid new :
     gathers = λ rest apart. subst (λ (u : Walk). StandApart (tokens_read u.runs.read ++ rest)) (sym puts.same) apart;
   }
 
-  pub has-settled : HasSettled new more files next
-  has-settled c now acting =
-      let listed = IsConfig-kept (Keeps-trans keeps later) now in
+  settled-next : (c : List ℕ) (listed : IsConfig old.arities c) → EndsHere c listed → IsSettledAt new more files next c
+  settled-next c listed ends =
       let all = Keeps-trans keeps later in
-      let acts : old.has w.acting.0 c ≡ true = sym (all.at w.acting.0 c stored.owns.acting listed) ∙ (ap (λ (u : Walk). new.has u.acting.0 c) (sym puts.same) ∙ acting) in
       let macros : macros_at new more w.table c ≡ macros_at old names w.table c = λ i name. (macros_at-Extends grows (IsTable-Keeps all stored.table) c name ∙ macros_at-Keeps all stored.table c name listed) i in
       let Ends : List (List Name) → Macros → Type 0 = λ sets ms. (hidden_at new more files sets next.runs.gathered c ≡ []) ⊎ ((held_at new files next.runs.held.items c ≡ [])
       × Expands place_alone ms (hidden_at new more files sets next.runs.gathered c) (closed (hidden_at new more files sets next.runs.gathered c))) in
-      subst (λ (u : Walk). Ends u.runs.sets (macros_at new more u.table c)) (sym puts.same) (subst (Ends hides) (sym macros) (ends-here c listed acts (old.has asked.0 c) refl))
+      subst (λ (u : Walk). Ends u.runs.sets (macros_at new more u.table c)) (sym puts.same) (subst (Ends hides) (sym macros) ends)
+
+  pub has-settled : HasSettled new more files next
+  has-settled c now acting =
+      let all = Keeps-trans keeps later in
+      let listed = IsConfig-kept all now in
+      let acts : old.has w.acting.0 c ≡ true = sym (all.at w.acting.0 c stored.owns.acting listed) ∙ (ap (λ (u : Walk). new.has u.acting.0 c) (sym puts.same) ∙ acting) in
+      settled-next c listed (ends-here c listed acts (old.has asked.0 c) refl)
+
+  -- where all without a fault are asked for
+  pub all-settled : asked.0 ≡ live.0 → AllHaveSettled new more files next
+  all-settled same c now free =
+      let all = Keeps-trans keeps later in
+      let listed = IsConfig-kept all now in
+      let parts = and_parts (new.has next.prepared.live.0 c) (has_none new next.runs.held.items c) free in
+      let lives : old.has w.prepared.live.0 c ≡ true = sym (all.at w.prepared.live.0 c stored.owns.prepared.live listed) ∙ (ap (λ (u : Walk). new.has u.prepared.live.0 c) (sym puts.same) ∙ parts.0) in
+      let none : has_none old w.runs.held.items c ≡ true =
+      ap is_empty (sym (faults_at-Keeps w.runs.held.items c all stored.owns.runs.held listed))
+      ∙ empty-left (faults_at new w.runs.held.items c) (faults_at new s.held.items c) (ap is_empty (sym (faults_at-append new w.runs.held.items s.held.items c)) ∙ (ap (λ fs. has_none new fs c) (sym puts.held) ∙ parts.1)) in
+      settled-next c listed (ends-asked c listed (ap (λ n. old.has n c) same ∙ (ask.live.at c listed ∙ (λ i. lives i && none i))))
 
 -- ---- and then another stage
 

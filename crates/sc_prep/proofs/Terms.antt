@@ -85,7 +85,7 @@ pub use Rattle.sc_prep.specs.Pragmas.{Awaited, AwaitsAt, HasNoPragma, OwnsPragma
 pub use Rattle.sc_prep.specs.Preprocesses.{IsOrdinary, IsRefused, OwnsList, ReadsNothing, Stops, is_accepted}
 pub use Rattle.sc_prep.specs.Printable.{AllPass, AreHeld, ArePlaced, ArePlainPaths, CanBeShown, HoldsRuns, IsHeldWalk, IsPlaced, IsPlainOrNewline, IsPlainState, IsPlainToken, StaysHeld, any_token, is_plain}
 pub use Rattle.sc_prep.specs.Read.{EndsRead, TakesOut, last_run, run_at, tokens_read}
-pub use Rattle.sc_prep.specs.Settles.{EndsRuns, HasSettled, IsAsked, KeepsSettled, fault_items}
+pub use Rattle.sc_prep.specs.Settles.{AllHaveSettled, EndsRuns, HasSettled, IsSettledAt, IsAsked, KeepsSettled, fault_items}
 pub use Rattle.sc_prep.specs.Simulates.{Closed, Covers, IsAtTop, IsBegun, IsBetweenRuns, IsContext, IsIn, IsOutcomeOf, IsReady, Leads, Owns, OwnsSection, OwnsRuns, PlainEach, RunAt, Simulates, SimulatesOneOf, SimulatesStep, StepsBetweenRuns, section_at}
 pub use Rattle.sc_prep.specs.Stages.{AskedHas, IsStored, KeepsText, LineStage, Stage, StopsSaid, StopsStage, is_asked}
 pub use Rattle.sc_prep.specs.declared.content.Content.{Content}

@@ -94,9 +94,18 @@ pub record EndsRuns (names : List (List ℕ)) (old : Sets) (walk : Walk) (new : 
   pub live : Denotes new next.prepared.live.0 (λ c. old.has walk.prepared.live.0 c && has_none last faults c)
   pub acting : Denotes new next.acting.0 (λ c. old.has walk.acting.0 c && has_none last faults c)
 
--- Of what the configurations have gathered that act nothing is left, or it has settled and nothing
--- holds it: where nothing follows it becomes this.
-abbrev pub HasSettled : Sets → (names files : List (List ℕ)) → Walk → Type 0
-HasSettled s names files w = (c : List ℕ) → IsConfig s.arities c → s.has w.acting.0 c ≡ true → (hidden_at s names files w.runs.sets w.runs.gathered c ≡ [])
+-- Of what the configuration has gathered nothing is left, or it has settled and nothing holds it:
+-- where nothing follows it becomes this.
+abbrev pub IsSettledAt : Sets → (names files : List (List ℕ)) → Walk → List ℕ → Type 0
+IsSettledAt s names files w c = (hidden_at s names files w.runs.sets w.runs.gathered c ≡ [])
     ⊎ ((held_at s files w.runs.held.items c ≡ [])
     × Expands place_alone (macros_at s names w.table c) (hidden_at s names files w.runs.sets w.runs.gathered c) (closed (hidden_at s names files w.runs.sets w.runs.gathered c)))
+
+-- so is the text of each that acts
+abbrev pub HasSettled : Sets → (names files : List (List ℕ)) → Walk → Type 0
+HasSettled s names files w = (c : List ℕ) → IsConfig s.arities c → s.has w.acting.0 c ≡ true → IsSettledAt s names files w c
+
+-- so is the text of each that has no fault, whether it acts or not
+abbrev pub AllHaveSettled : Sets → (names files : List (List ℕ)) → Walk → Type 0
+AllHaveSettled s names files w = (c : List ℕ) → IsConfig s.arities c → (s.has w.prepared.live.0 c && has_none s w.runs.held.items c) ≡ true
+    → IsSettledAt s names files w c

@@ -1,13 +1,15 @@
 //! What is put out of runs that have not come to their ends yet.
-ghost use Rattle.std.specs.Prelude.{◌≡◌, ℕ, ◌&&◌, ◌++◌, List, All, Ok, [], true, false, IfErr, IfOk, OnOk, length};
+ghost use Rattle.std.specs.Prelude.{◌≡◌, ℕ, ◌+◌, ◌&&◌, ◌++◌, List, All, Ok, [], true, false, IfErr, IfOk, OnOk, length};
 ghost use Rattle.c11_directives.specs.Footprints.{NameHas};
+ghost use Rattle.sc_expand.specs.Stops.{HasConfigs};
+ghost use Rattle.sc_guarded.specs.Items.{items_at};
 ghost use Rattle.sc_model.specs.Growth.{Extends};
-ghost use Rattle.sc_model.specs.Sets.{IsCond, Denotes, Keeps};
+ghost use Rattle.sc_model.specs.Sets.{IsCond, IsConfig, Denotes, Keeps};
 ghost use Rattle.sc_prep.specs.Closes.{has_none};
 ghost use Rattle.sc_prep.specs.Pragmas.{OwnsPragmas};
 ghost use Rattle.sc_prep.specs.Machine.{acts};
 ghost use Rattle.sc_prep.specs.Read.{tokens_read};
-ghost use Rattle.sc_prep.specs.Settles.{HasSettled, IsAsked, KeepsSettled, OwnsSettled};
+ghost use Rattle.sc_prep.specs.Settles.{AllHaveSettled, HasSettled, IsAsked, KeepsSettled, OwnsSettled};
 ghost use Rattle.sc_prep.specs.Stages.{IsStored, LineStage, StopsStage};
 
 use crate::closing::{append, is_met, within};
@@ -37,6 +39,9 @@ impl Walk {
         requires stored { IsStored (C.sets conds.old) names.old (length files.now) self.old }
         ensures stays { OnOk result (LineStage files.now names.old (C.sets conds.old) self.old [] names.new (C.sets conds.new) self.new (λ config m n. n ≡ m)) }
         ensures ends { OnOk result (HasSettled (C.sets conds.new) names.new files.now self.new) }
+        ensures early { OnOk result ((HasConfigs (C.sets conds.old).arities (limit + 1) → ⊥) → (c : List ℕ) → IsConfig (C.sets conds.old).arities c
+            → (C.sets conds.old).has self.old.acting.0 c ≡ true → (items_at (C.sets conds.old) self.old.runs.gathered c ≡ [] → ⊥)
+            → AllHaveSettled (C.sets conds.new) names.new files.now self.new) }
         ensures stops { IfErr result (StopsStage (C.sets conds.old) names.old files.now self.old (tokens_read self.old.runs.read)
             (λ config m f. (acts m ≡ true) × NameHas m.state.macros m.state.run f) limit) }
 
@@ -135,17 +140,19 @@ impl Walk {
         requires stored { IsStored (C.sets conds.old) names.old (length files.now) self.old }
         ensures stays { OnOk result (LineStage files.now names.old (C.sets conds.old) self.old [] names.new (C.sets conds.new) self.new (λ config m n. n ≡ m)) }
         ensures ends { result ≡ Ok true → HasSettled (C.sets conds.new) names.new files.now self.new }
+        ensures early { OnOk result ((HasConfigs (C.sets conds.old).arities (limit + 1) → ⊥) → AllHaveSettled (C.sets conds.new) names.new files.now self.new) }
+        ensures full { result ≡ Ok false → HasConfigs (C.sets conds.old).arities (limit + 1) }
 
         // at every outcome
         ensures keeps { Keeps (C.sets conds.old) (C.sets conds.new) }
         ensures names { Extends names.old names.new }
     {
         let live = without_faults(conds, self.prepared.live, &self.runs.held)?;
+        let acting = conds.apply_and(live, self.acting)?;
         let all = self.settle_in(alloc, conds, live, live, names, files, limit)?;
         if all {
             return Ok(true);
         }
-        let acting = conds.apply_and(live, self.acting)?;
         let some = self.settle_in(alloc, conds, live, acting, names, files, limit)?;
         Ok(some)
     }
@@ -166,8 +173,10 @@ impl Walk {
         requires stored { IsStored (C.sets conds.old) names.old (length files.now) self.old }
         requires asked { IsAsked (C.sets conds.old) self.old live.0 asked.0 }
         ensures stays { OnOk result (LineStage files.now names.old (C.sets conds.old) self.old [] names.new (C.sets conds.new) self.new (λ config m n. n ≡ m)) }
-        ensures ends { result ≡ Ok true → HasSettled (C.sets conds.new) names.new files.now self.new }
-        ensures same { result ≡ Ok false → self.new ≡ record self.old { runs = record self.old.runs { sets = self.new.runs.sets } } }
+        ensures ends { result ≡ Ok true → HasSettled (C.sets conds.new) names.new files.now self.new
+            × (asked.0 ≡ live.0 → AllHaveSettled (C.sets conds.new) names.new files.now self.new) }
+        ensures full { result ≡ Ok false → (self.new ≡ record self.old { runs = record self.old.runs { sets = self.new.runs.sets } })
+            × HasConfigs (C.sets conds.old).arities (limit + 1) }
 
         // at every outcome
         ensures keeps { Keeps (C.sets conds.old) (C.sets conds.new) }

@@ -1,5 +1,6 @@
-use Rattle.std.proofs.Common.{◌≡◌, ◌∙◌, Ok, rules, ap, inl, map, sym, true}
+use Rattle.std.proofs.Common.{◌≡◌, ◌+◌, ◌∙◌, Ok, subst, rules, ap, inl, map, sym, true}
 use Rattle.sc_expand.specs.Moved.{moved}
+use Rattle.sc_expand.specs.Stops.{HasConfigs}
 use Rattle.sc_prep.proofs.Facts.{Extends-refl, Extends-trans, IsConfig-kept, Keeps-trans, items_at-Keeps}
 use Rattle.sc_prep.proofs.SettleMoves.{settled-closes, settled-stops, stage-stored, stays-stage, stored-kept}
 use Rattle.sc_prep.proofs.Terms.{NameHas, StopsStage, acts, seen_hidden, seen_place, tokens_read}
@@ -87,3 +88,12 @@ returns-then-settled-clause-names g c = Extends-trans c.in_ok-within.ensures.nam
 
 pub returns-clause-names : goal.returns-clause-names
 returns-clause-names g c = Extends-trans c.in_ok-within.ensures.names (Extends-trans c.in_ok-judge_runs.ensures.names c.in_ok-settled.ensures.names)
+
+pub returns-then-not-met-clause-early : goal.returns-then-not-met-clause-early
+returns-then-not-met-clause-early g c = λ few config listed acting some. absurd (some (c.in_ok-met.ensures.none (ap Ok c.if-not-met.true) config listed acting))
+
+pub returns-then-within-clause-early : goal.returns-then-within-clause-early
+returns-then-within-clause-early g c = λ few config listed acting some. c.in_ok-within.ensures.early (λ many. few (subst (λ arities. HasConfigs arities (c.args.limit + 1)) c.in_ok-met.ensures.keeps.arities many))
+
+pub returns-then-settled-clause-early : goal.returns-then-settled-clause-early
+returns-then-settled-clause-early g c = λ few config listed acting some. absurd (few (subst (λ arities. HasConfigs arities (c.args.limit + 1)) c.in_ok-met.ensures.keeps.arities (c.in_ok-within.ensures.full (ap Ok c.if-within.false))))
