@@ -10,7 +10,7 @@ use Rattle.sc_base.specs.declared.id.TreeId.{TreeId}
 use Rattle.sc_base.specs.declared.stop.Stop.{Stop}
 use Rattle.sc_base.specs.declared.stop.Stop.TheVariants.{BranchesFull, ReadFault, OutOfMemory}
 use Rattle.sc_core.specs.declared.tree_texts.ParsedFile.{ParsedFile}
-use Rattle.sc_core.specs.Cut.{first_config}
+use Rattle.sc_core.specs.Cut.{first_config, last_config}
 use Rattle.sc_core.specs.Made.{made_name, made_space}
 use Rattle.sc_core.specs.Ordinary.{HasClasses, HasFewClasses, HasManyConfigs, Setting, Translates}
 use Rattle.sc_core.specs.RunError.{branches_line, line_of, space_line}
@@ -23,6 +23,8 @@ use Rattle.sc_model.specs.Bytes.{has_no_newline}
 use Rattle.sc_model.specs.Fault.{Fault}
 use Rattle.sc_model.specs.Sets.{Sets, IsConfig}
 use Rattle.sc_project.specs.Layout.{LaysOut}
+use Rattle.sc_show.specs.declared.summary.Summary.{Summary}
+use Rattle.sc_show.specs.FaultCount.{AreFaultsOf}
 use Rattle.sc_show.specs.PlainText.{IsPlainAnswer}
 use Rattle.sc_text.specs.Answer.{Answer, At, HasSoundChoices, IsRooted, ShownTree, tree_parts}
 use Rattle.sc_text.specs.Layout.{IsTextOf}
@@ -38,7 +40,7 @@ use Rattle.sc_tree.specs.Walks.{is_choice}
 use Rattle.sc_core.specs.declared.run_error.RunError.{RunError}
 use Rattle.sc_core.specs.declared.run_error.RunError.TheVariants as error
 use Rattle.sc_core.specs.declared.output.Output.{Output}
-use Rattle.sc_core.specs.CommandTexts.{HasNoFault, IsSummaryText, IsTokensText, IsTranslation, Tells}
+use Rattle.sc_core.specs.CommandTexts.{HasNoFault, IsSummaryText, IsTokensText, IsTranslation, Tells, size_in}
 use Rattle.sc_core.specs.Outcome.{HasSpace, HasText, HasTextOf, ListsNone, MayHold, RefusesSpace, WhereTold, job_of}
 use Rattle.sc_model.specs.Outside.{Files, Rose}
 use Rattle.sc_model.specs.Space.{Space, arities_of}
@@ -208,6 +210,17 @@ pub record TellsPlain (holds : Option Files) (space : Space) (main : List ℕ) (
   pub result : Result ShownTree Fault
   pub same : At tells.answer (first_config space) result
   pub plain : IsPlainAnswer tells.answer (first_config space) result
+
+-- the summary of a file that was parsed: what it says of the configurations of all first and of all
+-- last options, how many different faults there are, and the classes
+pub record Summarizes (s : Sets) (names files : List (List ℕ)) (p : ParsedFile) (count : ℕ) (m : Summary) : Type 0 where
+  pub items_are : m.items ≡ count
+  pub first : (o : Result Tree Fault) → Stands (seen_by s names files p) p.root p.faults.items (first_config made_space) o → m.first ≡ size_in o
+  pub last : (o : Result Tree Fault) → Stands (seen_by s names files p) p.root p.faults.items (last_config made_space) o → m.last ≡ size_in o
+  pub different : List Fault
+  pub of : AreFaultsOf s files p.faults.items different
+  pub many : length different ≡ m.faults
+  pub classes : m.classes ≡ p.classes
 
 -- the summary of a file that is made, in files that the source may hold
 pub record TellsSummary (holds : Option Files) (items : ℕ) (text : Output) : Type 0 where

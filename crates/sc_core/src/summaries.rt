@@ -6,8 +6,9 @@ ghost use Rattle.sc_core.specs.Made.{made_name, made_space};
 ghost use Rattle.sc_core.specs.Ordinary.{HasManyBranches};
 ghost use Rattle.sc_core.specs.CommandTexts.{size_in};
 ghost use Rattle.sc_core.specs.Outcome.{FailsFor, Reading, job_of};
-ghost use Rattle.sc_core.specs.Texts.{HasAnswers, IsAnswerFor, Stands, StopsIn, TellsSummary, lines_of, seen_by};
+ghost use Rattle.sc_core.specs.Texts.{HasAnswers, IsAnswerFor, Stands, StopsIn, Summarizes, TellsSummary, lines_of, seen_by};
 ghost use Rattle.sc_guarded.specs.Items.{faults_at};
+ghost use Rattle.sc_guarded.specs.Printable.{IsShowableFault};
 ghost use Rattle.sc_model.specs.Fault as model;
 ghost use Rattle.sc_model.specs.Outside.{Files as Outside};
 ghost use Rattle.sc_model.specs.Sets.{IsAlways, IsCond, IsConfig};
@@ -69,18 +70,37 @@ fn summary_under<C: Conditions, S: Source>(
     let parsed = parsed(
         alloc, src, conds, space, live, &mut names, &mut files, MADE_NAME,
     )?;
-    let first = vec![in alloc; 0; space.variables.len()]?;
-    let last = vec![in alloc; 1; space.variables.len()]?;
-    let summary = Summary {
-        items: items as usize,
-        first: size_at(alloc, conds, &parsed, &first)?,
-        last: size_at(alloc, conds, &parsed, &last)?,
-        faults: count_faults(alloc, conds, space.variables.len(), &files, &parsed.faults)?,
-        classes: parsed.classes,
-    };
+    let summary = summary_of(alloc, conds, space, &files, &parsed, items)?;
     Ok(Output {
         lines: show_make(alloc, &summary)?,
         is_refused: summary.faults > 0,
+    })
+}
+
+/// The summary of a file of so many items that was parsed under all configurations of the space.
+fn summary_of<C: Conditions>(
+    alloc: Global,
+    conds: &C,
+    space: &Space,
+    files: &Files,
+    parsed: &ParsedFile,
+    items: u32,
+) -> Result<Summary, OutOfMemory>
+    requires arities { (C.sets conds.now).arities ≡ arities_of (seen_space space.now) }
+    requires space { seen_space space.now ≡ made_space }
+    requires shown { All (IsShowableFault (C.sets conds.now) files.now) parsed.now.faults.items }
+    requires answered { (names : List (List ℕ)) × HasAnswers (IsConfig (C.sets conds.now).arities)
+        (seen_by (C.sets conds.now) names files.now parsed.now) parsed.now.root parsed.now.faults.items }
+    ensures { IfOk result (λ m. (names : List (List ℕ)) → Summarizes (C.sets conds.now) names files.now parsed.now items m) }
+{
+    let first = vec![in alloc; 0; space.variables.len()]?;
+    let last = vec![in alloc; 1; space.variables.len()]?;
+    Ok(Summary {
+        items: items as usize,
+        first: size_at(alloc, conds, parsed, &first)?,
+        last: size_at(alloc, conds, parsed, &last)?,
+        faults: count_faults(alloc, conds, space.variables.len(), files, &parsed.faults)?,
+        classes: parsed.classes,
     })
 }
 
