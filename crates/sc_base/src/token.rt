@@ -7,11 +7,11 @@ use sc_model::Kind;
 #[derive(Clone, Copy, Debug, PartialEq, Eq)]
 pub struct Token {
     pub kind: Kind,
+    /// White space or a newline stands before it.
+    pub space: bool,
     /// What a digraph stands for, and of every other token its spelling.
     pub name: Name,
     pub spelling: Name,
-    /// White space or a newline stands before it.
-    pub space: bool,
     /// Where its first byte stands.
     pub place: Place,
 }

@@ -38,11 +38,11 @@ impl Answers {
     }
 
     /// Forgets all where that is more than so many.
-    pub fn bound(&mut self, most: usize, alloc: Global)
+    pub fn bound(&mut self, most: usize)
         ensures { (self.new ≡ self.old) ⊎ (self.new ≡ []) }
     {
         if self.answers.len() > most {
-            self.answers = IndexMap::new(alloc);
+            self.answers.clear();
         }
     }
 

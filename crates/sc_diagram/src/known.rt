@@ -32,11 +32,11 @@ impl Known {
     }
 
     /// Forgets all where that is more than so many.
-    pub fn bound(&mut self, most: usize, alloc: Global)
+    pub fn bound(&mut self, most: usize)
         ensures { (self.new ≡ self.old) ⊎ (self.new ≡ []) }
     {
         if self.results.len() > most {
-            self.results = IndexMap::new(alloc);
+            self.results.clear();
         }
     }
 

@@ -224,7 +224,7 @@ impl Store {
         ensures keeps { Keeps (sets_of self.old) (sets_of self.new) }
     {
         let most = self.table.count() / 4;
-        self.answers.bound(most, self.table.allocator());
+        self.answers.bound(most);
         let asked = Question {
             node: a.0,
             within: within.0,
@@ -302,7 +302,7 @@ impl Store {
         ensures grows { Grows self.old self.new }
     {
         let most = self.table.count() / 4;
-        self.known.bound(most, self.table.allocator());
+        self.known.bound(most);
         let what = Application {
             operation,
             left: left.0,
