@@ -67,7 +67,7 @@ same fault = fault
 text-sole : {macros : Macros} {text : List Token} {r : Result (List Token) Fault} → TextExpands macros text r → Sole (TextExpands macros text) r
 text-sole d s e = d.is ∙ (ap text_of_answer (one d.expands e.answer e.expands).answer ∙ sym e.is)
 
-run-sole : {macros : Macros} {run : List Token} {r : Result (List Token) Fault} → RunBecomes macros run r → Sole (RunBecomes macros run) r
+pub run-sole : {macros : Macros} {run : List Token} {r : Result (List Token) Fault} → RunBecomes macros run r → Sole (RunBecomes macros run) r
 run-sole (run_expanded ts e d) s (run_expanded us f g) =
     let same : Ok ts ≡ Ok us = text-sole e (Ok us) f in
     let tokens : ts ≡ us = cc in
@@ -76,7 +76,7 @@ run-sole (run_expanded ts e d) _ (run_not_expanded fault f) = let other = text-s
 run-sole (run_not_expanded fault e) _ (run_expanded us f g) = let other = text-sole e (Ok us) f in cc
 run-sole (run_not_expanded fault e) _ (run_not_expanded other f) = text-sole e (Err other) f
 
-closes-sole : {s : State} {r : Result State Fault} → Closes s r → Sole (Closes s) r
+pub closes-sole : {s : State} {r : Result State Fault} → Closes s r → Sole (Closes s) r
 closes-sole {s} (closed output b) _ (closed output' b') =
     let oks : Ok output ≡ Ok output' = run-sole b (Ok output') b' in
     let outputs : output ≡ output' = cc in
@@ -214,7 +214,7 @@ not-said macros l directive.Unknown r e = refl
 
 -- ---- what a directive does that says something
 
-says-sole : {macros : Macros} {l : Line} {r : Result (List Token) Fault} → Says macros l r → Sole (Says macros l) r
+pub says-sole : {macros : Macros} {l : Line} {r : Result (List Token) Fault} → Says macros l r → Sole (Says macros l) r
 says-sole (as_it_stands e) q (as_it_stands f) = refl
 says-sole (as_it_stands e) q (expanded f d) = absurd (cc)
 says-sole (expanded e d) q (as_it_stands f) = absurd (cc)
@@ -395,13 +395,13 @@ module _ {x : Context} where
   includes-file {s = s} {r = r} file e known v = subst (λ b. EntersUnless x file s b r) known (includes-with e v)
 
   mutual
-    steps-sole : {l : Line} {s : State} {r : Result State Fault} → Steps x l s r → Sole (Steps x l s) r
+    pub steps-sole : {l : Line} {s : State} {r : Result State Fault} → Steps x l s r → Sole (Steps x l s) r
     steps-sole (text e) q v = sym (steps-with e v)
     steps-sole (null e) q v = sym (steps-with e v)
     steps-sole (stopped d fault e b c) q v = stops-sole (closes-sole c) q (steps-barrier e b v)
     steps-sole (carried_out d t e b c g) q v = goes-sole (closes-sole c) (carries-sole g) q (steps-barrier e b v)
 
-    carries-sole : {l : Line} {s : State} {d : Directive} {r : Result State Fault} → Carries x l s d r → Sole (Carries x l s d) r
+    pub carries-sole : {l : Line} {s : State} {d : Directive} {r : Result State Fault} → Carries x l s d r → Sole (Carries x l s d) r
     carries-sole {l} {s} {d} (changed macros c) q v =
         goes-sole (changed-sole s.macros l d (Ok macros) (changed-as c)) (λ _ f. sym f) q (carries-with (not-said s.macros l d (Ok macros) (changed-as c)) v)
     carries-sole {l} {s} {d} (not_changed cause fault c at) q v =

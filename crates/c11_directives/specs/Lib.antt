@@ -4,5 +4,6 @@ pub mod Lines
 pub mod Listed
 pub mod Pragmas
 pub mod Pre
+pub mod PutOut
 pub mod Reaches
 pub mod Sections
