@@ -1,5 +1,5 @@
 -- What closing the runs does at each configuration.
-use Rattle.std.proofs.Common.{◌≡◌, ℕ, ◌<◌, ◌&&◌, not, Bool, true, false, List, [], ◌∷◌, ◌++◌, All, map, length, take, Option, Some, None, Ok, Err, append-nil, append_assoc, ◌⊎◌, refl, sym, ap, subst, ◌∙◌, if◌then◌else◌, is_none}
+use Rattle.std.proofs.Common.{◌≡◌, ℕ, ◌<◌, ◌&&◌, not, Bool, true, false, List, [], ◌∷◌, ◌++◌, All, map, length, take, Option, Some, None, Ok, Err, append-nil, ◌⊎◌, refl, sym, ap, subst, ◌∙◌, if◌then◌else◌, is_none}
 use Rattle.c11_directives.specs.Pragmas.{expanded as run_expanded, not_expanded as run_not_expanded}
 use Rattle.c11_macros.specs.Hidden.{failure_at}
 use Rattle.sc_base.specs.declared.fault.Fault as base
@@ -20,7 +20,7 @@ use Rattle.sc_prep.proofs.Plain.{text-plain}
 use Rattle.sc_prep.proofs.PragmaLaws.{carried, carries-out}
 use Rattle.sc_prep.proofs.PragmaMoves.{awaits-kept, owns-pragmas}
 use Rattle.sc_prep.proofs.RunLemmas.{fault-items, faults-All, part-All, seen-told}
-use Rattle.sc_prep.proofs.SettledText.{TextEnds, awaits-behind, fails, put-behind, puts, text-as, text-begins, text-ends}
+use Rattle.sc_prep.proofs.SettledText.{TextEnds, awaits-behind, fails, put-behind, puts, settled-text, text-as, text-begins, text-ends}
 use Rattle.sc_prep.proofs.Terms.{AllPass, Awaited, AwaitsAt, CarriesOutPragmas, Cond, EndsRuns, Expands, Failure, Fault, HasSettled, Hidden, IsCond, IsConfig, IsHeldHidden, IsHeldWalk, IsNever, IsOneLine, IsPlaced, IsPlainState, IsStored, IsTable, Keeps, LineStage, Machine, Name, PlainEach, RunAt, RunBecomes, Sets, TextExpands, Walk, acts, after_these, any_machine, any_token, awaits, closing_run, fault_items, fault_of, faults_at, has_no_newline, has_none, held_at, hidden_at, is_empty, is_plain, items_at, macros_at, no_operator, option_to_list, outside, place_alone, put_out, run_at, seen, seen_fault, seen_hidden, seen_place, text_of_answer, token_of, tokens_within, fault_awaiting}
 use Rattle.sc_prep.proofs.Texts.{held_at-append, items_seen-append}
 use Rattle.sc_prep.proofs.WalkMoves.{owns-kept, simulates-kept}
@@ -109,7 +109,7 @@ closes-none files names s w owns is never = record {
 
 -- ---- runs that end
 
-empty-map : {A B : Type 0} (f : A → B) (xs : List A) → is_empty xs ≡ is_empty (map f xs)
+pub empty-map : {A B : Type 0} (f : A → B) (xs : List A) → is_empty xs ≡ is_empty (map f xs)
 empty-map f [] = refl
 empty-map f (x ∷ xs) = refl
 
@@ -203,7 +203,7 @@ module _ (files names : List (List ℕ)) {old new : Sets} (w next : Walk) (store
         → held_at mid files ends.e.faults.items c ≡ map (moved_failure (seen_place files)) (if a && several then map unclosed_at (take 1 xs) else [])
     unclosed-told a several here is = ap (map (moved_failure (seen_place files))) (ends.closed.faults c listed ∙ (λ i. if here i && is i then map unclosed_at (take 1 xs) else []))
 
-    ended-told : (a : Bool) → old.has w.acting.0 c ≡ a → held_at mid files ends.ended c ≡ (if a then held_at old files w.runs.held.items c else [])
+    pub ended-told : (a : Bool) → old.has w.acting.0 c ≡ a → held_at mid files ends.ended c ≡ (if a then held_at old files w.runs.held.items c else [])
     ended-told a here =
         ap (map (moved_failure (seen_place files))) (sym (fault-items mid ends.ended c) ∙ (ends.ends.at c listed ∙ ap (λ b. if b then items_at old (fault_items w.runs.held.items) c else []) here)) ∙ by a
       where
@@ -214,20 +214,20 @@ module _ (files names : List (List ℕ)) {old new : Sets} (w next : Walk) (store
     abbrev told_first : List (Failure Place)
     told_first = held_at mid files first_faults c
 
-    told-first : told_first ≡ held_at mid files ends.e.faults.items c ++ held_at mid files ends.ended c
+    pub told-first : told_first ≡ held_at mid files ends.e.faults.items c ++ held_at mid files ends.ended c
     told-first = held_at-append mid files ends.e.faults.items ends.ended c
 
     none-first : has_none mid first_faults c ≡ is_empty told_first
     none-first = empty-map seen_failure (faults_at mid first_faults c) ∙ empty-map (moved_failure (seen_place files)) (map seen_failure (faults_at mid first_faults c))
 
-    told-now : told_more ≡ map fault_of told_first ++ map (seen_fault files) (faults_at last ends.pragmas.unread c)
+    pub told-now : told_more ≡ map fault_of told_first ++ map (seen_fault files) (faults_at last ends.pragmas.unread c)
     told-now =
         ap (λ fs. map (seen_fault files) (faults_at last fs c)) ends.pragmas.is
         ∙ (ap (map (seen_fault files)) (faults_at-append last first_faults ends.pragmas.unread c)
         ∙ (map-append (seen_fault files) (faults_at last first_faults c) (faults_at last ends.pragmas.unread c)
         ∙ ap (λ fs. fs ++ map (seen_fault files) (faults_at last ends.pragmas.unread c)) (ap (map (seen_fault files)) (faults_at-Keeps first_faults c ends.until_last own-first listed_mid) ∙ seen-told files (faults_at mid first_faults c))))
 
-    none-now : none ≡ is_empty told_more
+    pub none-now : none ≡ is_empty told_more
     none-now = empty-map (seen_fault files) (faults_at last ends.faults c)
 
     acting-mid : mid.has w.acting.0 c ≡ old.has w.acting.0 c
@@ -237,7 +237,7 @@ module _ (files names : List (List ℕ)) {old new : Sets} (w next : Walk) (store
     abbrev last_tokens : List Token
     last_tokens = tokens_within names files mid ends.e.list w.acting.0 c
 
-    tokens-told : (a several : Bool) → old.has w.acting.0 c ≡ a → is_several xs ≡ several → last_tokens ≡ (if a && not several then map token_of gathered else [])
+    pub tokens-told : (a several : Bool) → old.has w.acting.0 c ≡ a → is_several xs ≡ several → last_tokens ≡ (if a && not several then map token_of gathered else [])
     tokens-told true several here is = ap (λ b. if b then shown (items_at mid ends.e.list c) else []) (acting-mid ∙ here) ∙ list-told true several here is
     tokens-told false several here is = ap (λ b. if b then shown (items_at mid ends.e.list c) else []) (acting-mid ∙ here)
 
@@ -253,12 +253,12 @@ module _ (files names : List (List ℕ)) {old new : Sets} (w next : Walk) (store
       read-at : AwaitsAt ends.pragmas.middle files ends.pragmas.read c (awaits awaited last_tokens)
       read-at = ends.pragmas.puts.awaits files c awaited listed_mid at-mid
 
-      awaits-now : (a : Bool) → old.has w.acting.0 c ≡ a → AwaitsAt new files next.runs.pragmas c (if a then no_operator else awaits awaited last_tokens)
+      pub awaits-now : (a : Bool) → old.has w.acting.0 c ≡ a → AwaitsAt new files next.runs.pragmas c (if a then no_operator else awaits awaited last_tokens)
       awaits-now a here = awaits-kept ends.later ends.pragmas.leaves.owns (IsConfig-Keeps ends.until_last listed_mid)
           (subst (AwaitsAt last files next.runs.pragmas c) (ap (λ b. if b then no_operator else awaits awaited last_tokens) (acting-mid ∙ here))
           (ends.pragmas.leaves.at files c (awaits awaited last_tokens) (IsConfig-Keeps ends.pragmas.until listed_mid) read-at))
 
-      put-now : shown (items_at new next.prepared.list c) ≡ shown (items_at old w.prepared.list c) ++ outside awaited last_tokens
+      pub put-now : shown (items_at new next.prepared.list c) ≡ shown (items_at old w.prepared.list c) ++ outside awaited last_tokens
       put-now =
           ap (λ ts. shown (items_at new ts c)) ends.pragmas.puts.is
           ∙ (items_seen-append new names files w.prepared.list kept_list c
@@ -273,7 +273,7 @@ module _ (files names : List (List ℕ)) {old new : Sets} (w next : Walk) (store
         by true = refl
         by false = refl
 
-    held-left : (a : Bool) → old.has w.acting.0 c ≡ a → held_at new files next.runs.held.items c ≡ (if a then [] else held_at old files w.runs.held.items c)
+    pub held-left : (a : Bool) → old.has w.acting.0 c ≡ a → held_at new files next.runs.held.items c ≡ (if a then [] else held_at old files w.runs.held.items c)
     held-left a here =
         ap (map (moved_failure (seen_place files))) (sym (fault-items new next.runs.held.items c) ∙ (ends.held.at c listed ∙ ap (λ b. if not b then items_at old (fault_items w.runs.held.items) c else []) here)) ∙ by a
       where
@@ -392,7 +392,7 @@ module _ (files names : List (List ℕ)) {old new : Sets} (w next : Walk) (store
         text-here : TextEnds m.state gathered (shown (items_at old w.prepared.list c)) (simulates.text no_fault).awaited (held_at old files w.runs.held.items c)
         text-here =
             let macros : macros_at old names w.table c ≡ m.state.macros = λ i name. simulates.macros no_fault name i in
-            text-ends (subst (λ ms. (gathered ≡ []) ⊎ ((held_at old files w.runs.held.items c ≡ []) × Expands place_alone ms gathered (closed gathered))) macros (settled c listed here)) (simulates.text no_fault).text
+            text-ends (subst (λ ms. (gathered ≡ []) ⊎ ((held_at old files w.runs.held.items c ≡ []) × Expands place_alone ms gathered (closed gathered))) macros (settled-text old names files w c (settled c listed here))) (simulates.text no_fault).text
 
       idles : acts m ≡ false → Arrives new names files next c (Closed m)
       idles idle =

@@ -31,15 +31,15 @@ at-inert e quiet (does acting none reaches) = let both = sym e ∙ acting in cc
 at-inert e quiet (decides asks) = let both = sym quiet ∙ asks in cc
 
 module _ {x : Context} {chain : List Place} {k : Moment} where
-  comes-none : {m : Machine} → ComesIn x chain k m [] → ⊥
+  pub comes-none : {m : Machine} → ComesIn x chain k m [] → ⊥
   comes-none c = elim c [ ]
 
   -- at the first line, or at one behind it
-  comes-more : {m : Machine} {l : Line} {ls : List Line} → ComesIn x chain k m (l ∷ ls) → ComesAt x m l chain k ⊎ ((n : Machine) × Takes x m l n × ComesIn x chain k n ls)
+  pub comes-more : {m : Machine} {l : Line} {ls : List Line} → ComesIn x chain k m (l ∷ ls) → ComesAt x m l chain k ⊎ ((n : Machine) × Takes x m l n × ComesIn x chain k n ls)
   comes-more (here at) = inl at
   comes-more (later {n} first rest) = inr (n, first, rest)
 
-  comes-append : (xs ys : List Line) {m : Machine} → ComesIn x chain k m (xs ++ ys) → ComesIn x chain k m xs ⊎ ((n : Machine) × Runs x m xs n × ComesIn x chain k n ys)
+  pub comes-append : (xs ys : List Line) {m : Machine} → ComesIn x chain k m (xs ++ ys) → ComesIn x chain k m xs ⊎ ((n : Machine) × Runs x m xs n × ComesIn x chain k n ys)
   comes-append [] ys {m} c = inr (m, machine.no_line, c)
   comes-append (l ∷ ls) ys c = elim (comes-more c) [
     | inl at ↦ inl (here at)
@@ -59,7 +59,7 @@ module _ {x : Context} {chain : List Place} {k : Moment} where
   -- ---- a machine that does nothing comes to none
 
   mutual
-    inert-comes : (g : Group) → IsGroup g → (m : Machine) → acts m ≡ false → ComesIn x chain k m (group_lines g) → ⊥
+    pub inert-comes : (g : Group) → IsGroup g → (m : Machine) → acts m ≡ false → ComesIn x chain k m (group_lines g) → ⊥
     inert-comes empty w m e c = comes-none c
     inert-comes (plain l rest) w m e c = elim (comes-more c) [
       | inl at ↦ at-inert e (plain_unasked m l w.0) at

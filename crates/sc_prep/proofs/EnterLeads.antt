@@ -199,6 +199,20 @@ module _ {old mid : Sets} {names : List (List ℕ)} {w : Walk} {within : Cond} (
                   group-then sections-then fault left.fault_is);
             }
 
+        abbrev was_put : List Token
+        was_put = put-before mid names files w begun within around config m begins (stays config m listed at) (IsConfig-Keeps keeps listed)
+
+        -- who does not enter the file stays as it is
+        still-idle : mid.has within.0 config ≡ false → Simulates last more more_files walked config (idle m was_put)
+        still-idle out =
+            let begun_at = begins-idle mid names files w begun within around config m begins (stays config m listed at) (IsConfig-Keeps keeps listed) out in
+            let after = walks.at config (idle m was_put) (IsConfig-Keeps keeps listed) begun_at (simulates.idles refl refl) in
+            subst (Simulates last more more_files walked config) (covers-idle (idle m was_put) has.are.tree refl after.done) after.simulates
+
+        -- and nothing of it is put out there
+        pub outside-list : m.fault ≡ None → mid.has within.0 config ≡ false → map (seen more more_files) (items_at new walked.prepared.list config) ≡ map (seen names files) (items_at mid w.prepared.list config)
+        outside-list none out = put-last (idle m was_put) (still-idle out) refl none
+
         entered-by : IsBetweenRuns m → (b : Bool) → mid.has within.0 config ≡ b → Arrives new more more_files next config (EntersFile x config m)
         entered-by between true here =
             let both = both-enter config m listed at here in
@@ -206,17 +220,11 @@ module _ {old mid : Sets} {names : List (List ℕ)} {w : Walk} {within : Cond} (
             let after = walks.at config (start first) (IsConfig-Keeps keeps listed) begun_at (simulates.begins first refl (record { name = named; deep = refl })) in
             let entered = covers-entered x file (record m.state { depth = entry.depth }) has.are.lexemes has.are.group has.are.few has.are.lexed lines-are has.are.tree after.done in
             left-by between after.machine after.simulates here entered.end entered.enters entered.leaves
-        entered-by between false out =
-            let output = put-before mid names files w begun within around config m begins (stays config m listed at) (IsConfig-Keeps keeps listed) in
-            let after = walks.at config (idle m output) (IsConfig-Keeps keeps listed) (begins-idle mid names files w begun within around config m begins (stays config m listed at) (IsConfig-Keeps keeps listed) out) (simulates.idles refl refl) in
-            let still : after.machine ≡ idle m output = covers-idle (idle m output) has.are.tree refl after.done in
-            record {
-              machine = m;
-              done = enters-not config m listed at x out;
-              simulates =
-                  let there = subst (Simulates last more more_files walked config) still after.simulates in
-                  goes-on (idle m output) there refl m.state.run m.state.output (λ none. run-listed (put-last (idle m output) there refl none ∙ sym put-then) (waiting none));
-            }
+        entered-by between false out = record {
+          machine = m;
+          done = enters-not config m listed at x out;
+          simulates = goes-on (idle m was_put) (still-idle out) refl m.state.run m.state.output (λ none. run-listed (outside-list none out ∙ sym put-then) (waiting none));
+        }
 
       pub leads-inside : Leads files names old w more_files more new next IsBetweenRuns (EntersFile x)
       leads-inside = record { at = λ config m listed at here. entered-by config m listed at here (mid.has within.0 config) refl }

@@ -1,9 +1,12 @@
 -- Looking names up, and the parts of files.
-use Rattle.std.proofs.Common.{Global, ◌≡◌, ℕ, zero, suc, ◌+◌, ◌<◌, ◌||◌, append-nil, drop, take, Bool, true, false, List, [], ◌∷◌, ◌++◌, All, map, length, get_or, slice_get, Option, Some, None, refl, sym, ap, subst, ◌∙◌, arith, if◌then◌else◌, ◌==◌, slice_set}
+use Rattle.std.proofs.Common.{Global, lt-ltb, ◌≡◌, ℕ, zero, suc, ◌+◌, ◌<◌, ◌≤◌, ◌||◌, inl, inr, not, cond, AllPairs, append-nil, drop, take, Bool, true, false, List, [], ◌∷◌, ◌++◌, All, map, length, get_or, slice_get, Option, Some, None, refl, sym, ap, subst, ◌∙◌, arith, if◌then◌else◌, ◌==◌, slice_set}
 use Rattle.sc_base.specs.Interns.{Interns, fresh, known}
-use Rattle.sc_prep.proofs.Facts.{All-cons, All-head, All-nil, All-push, IsConfig-Keeps, drop_more, eqb-true, map-append, position-Some, take-append-drop}
+use Rattle.std.proofs.lemmas.Bool.Decides.{eqb_tells}
+use Rattle.std.specs.List.{prefix_len}
+use Rattle.sc_prep.proofs.ApartLemmas.{pairs-head, pairs-tail}
+use Rattle.sc_prep.proofs.Facts.{All-tail, cases_lt, AllPairs-cons, All-cons, All-head, All-nil, All-push, IsConfig-Keeps, drop_more, eqb-true, map-append, position-Some, take-append-drop}
 use Rattle.sc_prep.proofs.ListsAt.{all-unmap, items-keeps, items-push, map-next}
-use Rattle.sc_prep.proofs.Terms.{AddsFile, ArePlainPaths, Cond, Content, Contents, Denotes, File, FileId, Files, Found, IsCond, IsConfig, Keeps, LooksUp, Part, Rc, Sets, Standard, file_with, files_at, found_or, has_no_newline, option_map, part_of, search}
+use Rattle.sc_prep.proofs.Terms.{AddsFile, AreOnce, ArePlainPaths, Cond, Content, Contents, Denotes, File, FileId, Files, Found, IsCond, IsConfig, Keeps, LooksUp, Part, Rc, Sets, Standard, file_with, files_at, found_or, has_no_newline, option_map, part_of, search}
 use Rattle.sc_prep.specs.Contents.{Agrees, AreContents, IsContent, absent, content_at, nested, refused}
 
 -- a name on one line that comes to a table of such names
@@ -104,6 +107,55 @@ module _ (s : Sets) (parts next : List Part) (part : Part) (pushed : next ≡ pa
 
   pub pushed-others : s.has part.cond.0 c ≡ false → files_at s next c ≡ files_at s parts c
   pushed-others has = pushed-files ∙ (ap (λ b. files_at s parts c ++ (if b then part.file ∷ [] else [])) has ∙ append-nil (files_at s parts c))
+
+-- ---- each file once
+
+pub pairs-push : {A : Type 0} (R : A → A → Type 0) (xs : List A) (x : A) → AllPairs R xs → All (λ y. R y x) xs → AllPairs R (xs ++ x ∷ [])
+pairs-push R [] x pairs all = AllPairs-cons R x [] (All-nil (R x)) pairs
+pairs-push R (y ∷ ys) x pairs all =
+    AllPairs-cons R y (ys ++ x ∷ []) (All-push (R y) ys x (pairs-head R y ys pairs) (All-head (λ z. R z x) y ys all)) (pairs-push R ys x (pairs-tail R y ys pairs) (All-tail (λ z. R z x) y ys all))
+
+ne-itself : (n : ℕ) → (n == n) ≡ false → ⊥
+ne-itself n e = elim (eqb_tells n n) [
+  | inl same ↦ (let both = sym same.0 ∙ e in cc)
+  | inr other ↦ other.1 refl
+]
+
+-- how many of other files stand first
+abbrev others_first : List Part → FileId → ℕ
+others_first parts file = prefix_len (λ (part : Part). not (part.file.0 == file.0)) parts
+
+all-others : (parts : List Part) (file : FileId) → length parts ≤ others_first parts file → All (λ f. f ≡ file → ⊥) (map (λ (part : Part). part.file) parts)
+all-others [] file past = All-nil (λ (f : FileId). f ≡ file → ⊥)
+all-others (p ∷ ps) file past = by (p.file.0 == file.0) refl past (all-others ps file)
+  where
+    by : (b : Bool) → (p.file.0 == file.0) ≡ b → suc (length ps) ≤ cond (not b) (1 + others_first ps file) 0
+        → (length ps ≤ others_first ps file → All (λ f. f ≡ file → ⊥) (map (λ (part : Part). part.file) ps)) → All (λ f. f ≡ file → ⊥) (p.file ∷ map (λ (part : Part). part.file) ps)
+    by true is past later = absurd (omega (arith, past))
+    by false is past later =
+        All-cons (λ (f : FileId). f ≡ file → ⊥) p.file (map (λ (part : Part). part.file) ps) (λ same. ne-itself file.0 (ap (λ (f : FileId). f.0 == file.0) (sym same) ∙ is)) (later (omega (arith, past)))
+
+none-of : (parts : List Part) (file : FileId) → part_of parts file.0 ≡ None → All (λ f. f ≡ file → ⊥) (map (λ (part : Part). part.file) parts)
+none-of parts file none = all-others parts file (elim (cases_lt (others_first parts file) (length parts)) [
+  | inl under ↦ (let some = sym (ap (λ b. cond b (Some (others_first parts file)) None) (lt-ltb (others_first parts file) (length parts) under)) ∙ none in absurd (cc))
+  | inr past ↦ past
+])
+
+pub once-pushed : (parts next : List Part) (part : Part) → next ≡ parts ++ part ∷ [] → part_of parts part.file.0 ≡ None → AreOnce parts → AreOnce next
+once-pushed parts next part pushed none once =
+    subst (AllPairs (λ (one : FileId) other. one ≡ other → ⊥)) (sym (ap (map (λ (p : Part). p.file)) pushed ∙ map-append (λ (p : Part). p.file) parts (part ∷ [])))
+    (pairs-push (λ one other. one ≡ other → ⊥) (map (λ (p : Part). p.file) parts) part.file once (none-of parts part.file none))
+
+pub once-none : AreOnce []
+once-none i j d before below = absurd (omega (arith, below))
+
+set-files : (p q : Part) (parts : List Part) (i : ℕ) → q ≡ get_or parts i q → p.file ≡ q.file → map (λ (part : Part). part.file) (slice_set parts i p) ≡ map (λ (part : Part). part.file) parts
+set-files p q [] i is same = refl
+set-files p q (x ∷ xs) zero is same = ap (λ f. f ∷ map (λ (part : Part). part.file) xs) (same ∙ ap (λ (part : Part). part.file) is)
+set-files p q (x ∷ xs) (suc i) is same = ap (λ fs. x.file ∷ fs) (set-files p q xs i is same)
+
+pub once-joined : (parts : List Part) (i : ℕ) (p q : Part) → q ≡ get_or parts i q → p.file ≡ q.file → AreOnce parts → AreOnce (slice_set parts i p)
+once-joined parts i p q is same once = subst (AllPairs (λ (one : FileId) other. one ≡ other → ⊥)) (sym (set-files p q parts i is same)) once
 
 -- ---- names in order
 

@@ -1,8 +1,10 @@
 -- A walk of the main file, from before its first line.
-use Rattle.std.proofs.Common.{◌≡◌, ℕ, ◌<◌, ◌≤◌, ◌++◌, ◌&&◌, Bool, true, false, List, [], ◌∷◌, All, length, map, Option, Some, None, Result, Err, refl, sym, ap, ◌∙◌, inl, inr, subst, arith}
+use Rattle.std.proofs.Common.{append-nil, ◌≡◌, ℕ, ◌<◌, ◌≤◌, ◌++◌, ◌&&◌, Bool, true, false, List, [], ◌∷◌, All, length, map, Option, Some, None, Result, Err, refl, sym, ap, ◌∙◌, inl, inr, subst, arith}
 use Rattle.std.specs.Prelude.{is_none, slice_get}
 use Rattle.c11_directives.proofs.PreLaws.{pre-unique}
 use Rattle.c11_directives.specs.Footprints.{FilesHave}
+use Rattle.c11_directives.specs.PutOut.{FilesPutOut}
+use Rattle.c11_directives.specs.Reaches.{Moment, Reaches}
 use Rattle.sc_base.specs.declared.fault.Fault as base
 use Rattle.sc_base.specs.declared.place.Place as declared
 use Rattle.sc_base.specs.Interns as interns
@@ -11,18 +13,22 @@ use Rattle.sc_guarded.specs.Printable.{IsShowable, IsShowableFault}
 use Rattle.sc_model.specs.Token as plain
 use Rattle.sc_prep.proofs.EnterLeads.{HasRefusal, has-lines, has-refusal}
 use Rattle.sc_prep.proofs.EnterMoves.{refused-here, refused-not}
-use Rattle.sc_prep.proofs.Facts.{All-append, All-cons, All-nil, All-weaker, IsConfig-Keeps, IsConfig-kept, IsTable-Extends, and_parts, both_ways, cases_Bool, faults_at-Keeps, items_at-Keeps}
+use Rattle.sc_prep.proofs.Facts.{Keeps-trans, same_Some, All-append, All-cons, All-nil, All-weaker, IsConfig-Keeps, IsConfig-kept, IsTable-Extends, and_parts, both_ways, cases_Bool, faults_at-Keeps, items_at-Keeps}
 use Rattle.sc_prep.proofs.FileTokens.{all-shown, faults-few}
 use Rattle.sc_prep.proofs.MainWalk.{begins-as, entered-ordinary, finds-main}
 use Rattle.sc_prep.proofs.Plain.{initial-plain}
+use Rattle.sc_prep.proofs.Going.{searched}
+use Rattle.sc_prep.proofs.SharesKept.{nth-later}
 use Rattle.sc_prep.proofs.Stopping.{moments-as, stops-among, stops-as}
-use Rattle.sc_prep.proofs.Terms.{AllPass, AreApart, AreContents, AreOnceHeld, ArePlaced, ArePlainPaths, CanBeShown, Cause, Comes, ComesInside, Cond, Content, Contents, Context, Denotes, EntersAt, Extends, Fault, FileId, Files, Includes, IsBegun, IsBetweenRuns, IsCond, IsConfig, IsContent, IsContext, IsHeldContent, IsHeldWalk, IsOrdinary, IsOutcomeOf, IsReady, IsRefused, IsSound, IsStored, IsTable, Keeps, Leads, Machine, MacroTable, MomentsHave, Owns, OwnsList, PlainEach, Pre, Prepared, RefusesEach, Sets, Simulates, Space, Standard, State, Stop, StopsAmong, StopsAtPlace, Token, Walk, any_token, arities_of, content_at, context_of, end_of_file, end_place, entered, fault_at, faults_at, file_with, first_place, found_or, has_no_newline, has_none, initial_macros, initial_state, is_accepted, is_empty, is_plain, items_at, macros_at, option_to_list, seen, seen_fault, seen_place, start, text_at, unwrap_or}
+use Rattle.sc_prep.proofs.Terms.{AllPass, AreApart, AreContents, AreOnceHeld, ArePlaced, ArePlainPaths, CanBeShown, Cause, Comes, ComesInside, Cond, Content, Contents, Context, Denotes, EntersAt, Extends, Fault, File, FileId, Files, Includes, IsBegun, IsBetweenRuns, IsCond, IsConfig, IsContent, IsContext, IsHeldContent, IsHeldWalk, IsOrdinary, IsOutcomeOf, IsReady, IsRefused, IsSound, IsStored, IsTable, Keeps, Leads, Machine, MacroTable, MomentsHave, Owns, OwnsList, PlainEach, Pre, Prepared, RefusesEach, Sets, Simulates, Space, Standard, State, Stop, StopsAmong, StopsAtPlace, Token, Walk, any_token, arities_of, content_at, context_of, end_of_file, end_place, entered, fault_at, faults_at, file_with, first_place, found_or, has_no_newline, has_none, initial_macros, initial_state, is_accepted, is_empty, is_plain, items_at, macros_at, option_to_list, search, seen, seen_fault, seen_place, start, text_at, unwrap_or}
 use Rattle.sc_prep.specs.New.{IsNew}
 use Rattle.sc_prep.specs.Pragmas.{HasNoPragma}
 use Rattle.sc_prep.proofs.Texts.{holds-none}
 use Rattle.sc_prep.specs.declared.content.Content.TheVariants as content
 use Rattle.sc_prep.specs.Includes.{elsewhere, inert}
 use Rattle.sc_prep.specs.Preprocesses.{IsLeftOut, Stands}
+use Rattle.sc_prep.specs.OneElement.{HaveOne, IsThin}
+use Rattle.sc_prep.specs.Thin.{WherePutOut}
 use Rattle.sc_prep.specs.Valid.{IsOf}
 
 -- ---- nothing was read yet
@@ -344,3 +350,36 @@ module _ {s : Sets} {space : Space} {names files : List (List ℕ)} {walk : Walk
       record { file = inside.file; found = finds-main outside main inside.file inside.named inside.there; reaches = inside.reaches })
       (comes first (fresh.starts main config one.formed) (λ acting. refl)).1)
       (stops-among limit stop (λ config f listed comes. record { formed = listed; has = (comes (start (initial_state space main config)) (fresh.starts main config listed) (λ acting. refl)).0 }) stops)
+
+  -- what it puts out of a token
+  pub entered-thin : {next_sets t : Sets} (next : Walk) (keeps : Keeps s next_sets) (later : Keeps next_sets t) (main : List ℕ) (outside : Files) (file : FileId) (cond : Cond) → slice_get files file.0 ≡ Some main → OwnsList next_sets next.prepared
+      → WherePutOut files names s walk IsBetweenRuns (λ config m chain k. (s.has cond.0 config ≡ true) × ComesInside (context_of space outside) (text_at files file.0) 0 m chain k) next_sets next (λ c d index. HaveOne next_sets next.prepared.list c d)
+      → (met : Cond) → ((config : List ℕ) → IsConfig s.arities config → t.has met.0 config ≡ true → (next_sets.has next.prepared.live.0 config ≡ true) × (s.has cond.0 config ≡ true)) → IsThin t next.prepared.list met.0 (FilesPutOut space outside main)
+  entered-thin {next_sets} {t} next keeps later main outside file cond named owns puts met was = record {
+    one = λ c d now now_d live live_d f index n m one two.
+        let p = IsConfig-kept (Keeps-trans keeps later) now in
+        let q = IsConfig-kept (Keeps-trans keeps later) now_d in
+        let mine = was c p live in
+        let theirs = was d q live_d in
+        let have = puts c d p q mine.0 theirs.0 (start (initial_state space main c)) (start (initial_state space main d)) (fresh.starts main c p) (fresh.starts main d q) (λ acting. refl) (λ acting. refl)
+        f.0.chain one.line two.line one.state two.state (f.0.spot, f.1) index n m (mine.1, inside one.reaches) (theirs.1, inside two.reaches) one.puts two.puts in
+        subst (λ list. HaveOne t list c d n m) (append-nil next.prepared.list)
+        (have.0, nth-later later c (IsConfig-Keeps keeps p) next.prepared.list [] owns.list n have.0 have.1, nth-later later d (IsConfig-Keeps keeps q) next.prepared.list [] owns.list m have.0 have.2);
+  }
+    where
+      main-name : {f : File} → search outside (main ∷ []) ≡ Some f → f.name ≡ main
+      main-name {f} found = by (outside main) found
+        where
+          by : (o : Option (List ℕ)) → found_or None main o ≡ Some f → f.name ≡ main
+          by None e = absurd (cc)
+          by (Some bytes) e = sym (ap (λ (g : File). g.name) (same_Some (file_with main bytes) f e))
+
+      inside : {c : List ℕ} {chain : List plain.Place} {k : Moment} → Reaches space outside main c chain k → ComesInside (context_of space outside) (text_at files file.0) 0 (start (initial_state space main c)) chain k
+      inside reaches = record {
+        acting = refl;
+        file = reaches.file;
+        named = main-name reaches.found ∙ sym (ap (λ (o : Option (List ℕ)). unwrap_or o []) named);
+        there = ap outside (sym (main-name reaches.found ∙ sym (ap (λ (o : Option (List ℕ)). unwrap_or o []) named))) ∙ searched outside (main ∷ []) reaches.file reaches.found;
+        again = refl;
+        reaches = reaches.reaches;
+      }

@@ -10,14 +10,14 @@ use Rattle.sc_prep.proofs.Terms.{Alternative, ClosesAt, Conditional, Context, El
 -- ---- the machine
 
 -- the next branch, which the machine doesn't act in: an alternative is left to be taken
-record BranchInert (x : Context) (m : Machine) (l : Line) (a u : Bool) (ss : List (Bool × Bool)) : Type 0 where
-  active : Bool
-  untaken : Bool
-  taken : Takes x m l (turned m active ((a, untaken) ∷ ss))
-  inactive : (active && is_none m.fault) ≡ false
-  later : (untaken && is_none m.fault) ≡ false
+pub record BranchInert (x : Context) (m : Machine) (l : Line) (a u : Bool) (ss : List (Bool × Bool)) : Type 0 where
+  pub active : Bool
+  pub untaken : Bool
+  pub taken : Takes x m l (turned m active ((a, untaken) ∷ ss))
+  pub inactive : (active && is_none m.fault) ≡ false
+  pub later : (untaken && is_none m.fault) ≡ false
 
-branch-inert : {x : Context} (m : Machine) (l : Line) (c : Option Conditional) (a u : Bool) (ss : List (Bool × Bool)) → conditional_of l ≡ c → begins_branch c ≡ true → ends_branch c ≡ true
+pub branch-inert : {x : Context} (m : Machine) (l : Line) (c : Option Conditional) (a u : Bool) (ss : List (Bool × Bool)) → conditional_of l ≡ c → begins_branch c ≡ true → ends_branch c ≡ true
     → m.sections ≡ (a, u) ∷ ss → (u && is_none m.fault) ≡ false → BranchInert x m l a u ss
 branch-inert m l None a u ss e begins ends s inactive = cc
 branch-inert m l (Some (Opening test)) a u ss e begins ends s inactive = cc
@@ -38,22 +38,22 @@ branch-inert {x} m l (Some Else) a u ss e begins ends s inactive = record {
 branch-inert m l (Some Endif) a u ss e begins ends s inactive = cc
 
 module _ (ms : List Line) where
-  ends-within : (i : ℕ) → ends_branch (conditional_of (line_at ms i)) ≡ true → i < length ms
+  pub ends-within : (i : ℕ) → ends_branch (conditional_of (line_at ms i)) ≡ true → i < length ms
   ends-within i ends =
       elim (cases_lt i (length ms)) [
         | inl h ↦ h
         | inr past ↦ (let nothing_there = ap (λ l. ends_branch (conditional_of l)) (get_or_past ms i no_line past) in cc)
       ]
 
-  closes-begins : {i e : ℕ} → ClosesAt ms i e → begins_branch (conditional_of (line_at ms i)) ≡ true
+  pub closes-begins : {i e : ℕ} → ClosesAt ms i e → begins_branch (conditional_of (line_at ms i)) ≡ true
   closes-begins (last_branch next endif) = next.begins
   closes-begins (more_branches next closes) = next.begins
 
-  closes-within : {i e : ℕ} → ClosesAt ms i e → e < length ms
+  pub closes-within : {i e : ℕ} → ClosesAt ms i e → e < length ms
   closes-within {i} {e} (last_branch next endif) = ends-within e next.ends
   closes-within (more_branches next closes) = closes-within closes
 
-  closes-after : {i e : ℕ} → ClosesAt ms i e → i < e
+  pub closes-after : {i e : ℕ} → ClosesAt ms i e → i < e
   closes-after (last_branch next endif) = next.after
   closes-after (more_branches next closes) = let later = closes-after closes in let after = next.after in omega (arith, later, after)
 
@@ -71,7 +71,7 @@ module _ (ms : List Line) where
         let still : Runs x n (slice_range ms i j) n = subst (λ ls. Runs x n ls n) tree.whole (inert_run group tree.grouped n inactive) in
         subst (λ k. Before k n) (sym size) (subst (λ ls. Runs x m ls n) (sym (take-add i (j - i) ms)) (runs-join (take i ms) before still))
 
-    branch-passed : (i j : ℕ) (n : Machine) → IsNextBranch ms i j → acts n ≡ false → Before (i + 1) n → Before j n
+    pub branch-passed : (i j : ℕ) (n : Machine) → IsNextBranch ms i j → acts n ≡ false → Before (i + 1) n → Before j n
     branch-passed i j n next inactive before =
         let after = next.after in
         group-passed next.between.0 (i + 1) j n (omega (arith, after)) next.between.1 inactive before
@@ -142,7 +142,7 @@ module _ (ms : List Line) where
   over-more i j (Some (Opening test)) (Some branch) e ends has within over = whole_section over within (record { test = test; named = e }) has.close
 
   module _ (found : List declared.Line) (stand : StandFor ms found) where
-    found-long : length ms ≡ length found
+    pub found-long : length ms ≡ length found
     found-long = same_length conditional_of (λ l. conditional_in l.directive) ms found stand.conditionals
 
     module _ (i : ℕ) (d : declared.Line) (h : i < length found) where

@@ -1,5 +1,5 @@
 -- How configurations read `_Pragma` operators.
-use Rattle.std.proofs.Common.{◌≡◌, ℕ, ◌<◌, ◌&&◌, ◌||◌, not, Bool, true, false, true≢false, List, [], ◌∷◌, ◌++◌, All, map, Option, Some, None, is_some, is_none, append-nil, append_assoc, refl, sym, ap, subst, ◌∙◌, if◌then◌else◌}
+use Rattle.std.proofs.Common.{◌≡◌, ℕ, ◌<◌, ◌&&◌, ◌||◌, not, Bool, true, false, true≢false, List, [], ◌∷◌, ◌++◌, All, map, Option, Some, None, is_some, is_none, append-nil, append_assoc, refl, sym, ap, subst, ◌∙◌, arith, if◌then◌else◌}
 use Rattle.std.proofs.lemmas.List.Elements.{Contains-append_left, Contains-append_right, Contains-push}
 use Rattle.std.specs.List.{Contains}
 use Rattle.std.specs.Option.{option_to_list}
@@ -9,15 +9,16 @@ use Rattle.sc_base.specs.declared.fault.Fault as base
 use Rattle.sc_base.specs.declared.place.Place as base_place
 use Rattle.sc_base.specs.declared.token.Token as base_token
 use Rattle.sc_expand.specs.Moved.{moved_failure}
-use Rattle.sc_expand.specs.Seen.{failures_at, seen_failure}
+use Rattle.sc_expand.specs.Seen.{seen_failure}
 use Rattle.sc_model.specs.declared.cause.Cause.TheVariants.{BadPragma}
 use Rattle.sc_model.specs.Fault.{Fault}
-use Rattle.sc_model.specs.Token.{Place, Token}
-use Rattle.sc_prep.proofs.Facts.{All-append, All-cons, All-head, All-map, All-nil, All-pop, All-push, Denotes-Keeps, IsConfig-Keeps, IsConfig-kept, Keeps-trans, and_parts, faults_at-Keeps, faults_at-append, items_at-Keeps, items_at-append, map-append}
+use Rattle.sc_model.specs.Token.{Token}
+use Rattle.sc_prep.proofs.Facts.{All-append, All-cons, All-head, All-map, All-nil, All-pop, All-push, IsConfig-Keeps, IsConfig-kept, Keeps-trans, and_parts, faults_at-Keeps, faults_at-append, items_at-Keeps, items_at-append, map-append}
+use Rattle.sc_prep.proofs.PragmaPlaces.{each-next, each-none, each-one}
 use Rattle.sc_prep.proofs.RunLemmas.{fault-items, faults-All, part-All, part-later, seen-told}
 use Rattle.sc_prep.proofs.Terms.{Cond, Denotes, Failure, IsCond, IsConfig, IsNever, IsPart, IsWithin, Keeps, Sets, fault_items, faults_at, has_none, is_empty, items_at, seen, seen_fault, seen_place}
 use Rattle.sc_prep.specs.declared.pragmas.Pragmas.{Pragmas}
-use Rattle.sc_prep.specs.Pragmas.{ArePragmasPlaced, Awaited, AwaitsAt, BeginsPragma, EndsPragmas, HasNoPragma, MovesPragmas, OwnsPragmas, PutsOutside, ReadsPragma, awaited_behind, awaits, awaits_closing, awaits_opening, awaits_text, closing, is_outside, no_operator, nothing, opening, outside, read_behind, text, tokens_within, fault_awaiting}
+use Rattle.sc_prep.specs.Pragmas.{Awaited, AwaitsAt, BeginsPragma, EndsPragmas, HasNoPragma, MovesPragmas, OwnsPragmas, PutsOutside, ReadsPragma, awaited_behind, awaits, awaits_closing, awaits_opening, awaits_text, closing, is_outside, no_operator, nothing, opening, outside, read_behind, text, tokens_within, fault_awaiting}
 
 and_true : (b : Bool) → (b && true) ≡ b
 and_true true = refl
@@ -356,6 +357,7 @@ module _ (names : List (List ℕ)) {old middle : Sets} {p read : Pragmas} {free 
     owns = reads.moves.owns;
     awaits = λ files c a listed at. subst (AwaitsAt middle files read c) (both files c a listed at (old.has cond.0 c) refl).0 (now files c a listed at);
     puts = λ files c a listed at. sym (both files c a listed at (old.has cond.0 c) refl).1;
+    each = each-one names old middle p cond t [] (omega arith) (λ files c a listed at. sym (both files c a listed at (old.has cond.0 c) refl).1);
     placed = λ files there all. reads.moves.placed files all;
   }
     where
@@ -377,6 +379,7 @@ module _ (names : List (List ℕ)) {old middle : Sets} {p read : Pragmas} {free 
     awaits = λ files c a listed at. subst (AwaitsAt new files q c) (both files c a listed at (old.has cond.0 c) refl).0
         (begins.at files c _ (IsConfig-Keeps keeps listed) (now files c a listed at) (λ is. free-none files c a listed at (old.has cond.0 c) refl (sym (freed files c a listed at) ∙ is)));
     puts = λ files c a listed at. sym (both files c a listed at (old.has cond.0 c) refl).1;
+    each = each-one names old new p cond t [] (omega arith) (λ files c a listed at. sym (both files c a listed at (old.has cond.0 c) refl).1);
     placed = λ files there all. begins.placed files (All-head (λ (i : Cond × base_token.Token). i.1.place.file.0 < files) (cond, t) [] there) (reads.moves.placed files all);
   }
     where
@@ -420,6 +423,7 @@ module _ (names : List (List ℕ)) {old middle : Sets} {p read : Pragmas} {free 
     owns = reads.moves.owns;
     awaits = λ files c a listed at. subst (AwaitsAt middle files read c) (both files c a listed at (old.has cond.0 c) refl).0 (now files c a listed at);
     puts = λ files c a listed at. (both files c a listed at (old.has cond.0 c) refl).1;
+    each = each-one names old middle p cond t ((free, t) ∷ []) (omega arith) (λ files c a listed at. (both files c a listed at (old.has cond.0 c) refl).1);
     placed = λ files there all. reads.moves.placed files all;
   }
     where
@@ -481,6 +485,7 @@ puts-none names {s} {p} by list owns = record {
   owns = owns;
   awaits = λ files c a listed at. subst (AwaitsAt s files p c) (ap (awaits a) (sym (if-none (s.has by c)))) at;
   puts = λ files c a listed at. ap (outside a) (sym (if-none (s.has by c)));
+  each = each-none names by;
   placed = λ files there all. all;
 }
 
@@ -522,6 +527,7 @@ module _ (names : List (List ℕ)) {first s1 s2 s3 : Sets} {p p1 q : Pragmas} {f
         ∙ ((λ j. map (seen names files) (items_at-Keeps was.kept c now was.part.own (IsConfig-Keeps before listed) j) ++ next.puts files c _ (mid_listed listed) (mid files c a listed at) j)
         ∙ (ap (λ xs. xs ++ outside (awaits a (tokens_within names files first front by c)) (tokens_within names files s2 ((part, t) ∷ []) part.0 c)) (was.puts files c a listed at)
         ∙ sym (ap (outside a) (tokens-next files c listed) ∙ outside-append a (tokens_within names files first front by c) (tokens_within names files s2 ((part, t) ∷ []) part.0 c)))));
+    each = each-next names by cond part t before keeps later part_is was.part.own was.puts mid was.each next.each;
     placed = λ files there all.
         let There : Cond × base_token.Token → Type 0 = λ item. item.1.place.file.0 < files in
         let parts = All-pop There all_items front (Some (cond, t)) refl there in

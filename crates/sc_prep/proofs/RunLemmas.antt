@@ -10,8 +10,9 @@ use Rattle.sc_expand.specs.Closing.{IsClosed}
 use Rattle.c11_macros.specs.Text.{fault_of}
 use Rattle.sc_expand.specs.Moved.{moved_failure}
 use Rattle.sc_expand.specs.Seen.{failures_at, seen_failure}
-use Rattle.sc_prep.proofs.Facts.{All-at, All-map, All-nil, All-push, IsConfig-Keeps, IsConfig-kept, faults_at-Keeps, faults_at-append, items_at-Keeps, items_at-append, map-append, none-told, take-next}
+use Rattle.sc_prep.proofs.Facts.{All-at, All-head, All-map, All-nil, All-push, All-tail, IsConfig-Keeps, IsConfig-kept, faults_at-Keeps, faults_at-append, items_at-Keeps, items_at-append, map-append, none-told, take-next}
 use Rattle.sc_prep.proofs.Terms.{Cond, Denotes, Expanded, Failure, IsCond, IsConfig, IsNever, IsPart, IsWithin, Keeps, RefusesEach, Sets, Walk, fault_items, faults_at, has_none, is_empty, items_at, seen_fault, seen_place}
+use Rattle.sc_prep.specs.Closes.{KeepsEach, keeps_item, leaves_item, no_items}
 use Rattle.sc_subst.specs.declared.hidden.Hidden.{Hidden}
 
 pub denotes-as : {s : Sets} {a : ℕ} (f g : List ℕ → Bool) → ((c : List ℕ) → IsConfig s.arities c → f c ≡ g c) → Denotes s a f → Denotes s a g
@@ -64,11 +65,44 @@ module _ {T : Type 0} where
   one_within false true x xs = refl
   one_within false false x xs = refl
 
+  -- ---- each item, or none of it
+
+  each-append : {old new : Sets} {t : List ℕ → Bool} {xs ks ys ls : List (Cond × T)} → KeepsEach old t new xs ks → KeepsEach old t new ys ls → KeepsEach old t new (xs ++ ys) (ks ++ ls)
+  each-append no_items last = last
+  each-append (keeps_item at rest) last = keeps_item at (each-append rest last)
+  each-append (leaves_item at rest) last = leaves_item at (each-append rest last)
+
+  each-later : {first old new : Sets} {t : List ℕ → Bool} {items kept : List (Cond × T)} → Keeps first old → Keeps old new → All (λ (i : Cond × T). IsCond old i.0.0) kept → KeepsEach first t old items kept → KeepsEach first t new items kept
+  each-later before keeps own no_items = no_items
+  each-later {old = old} before keeps own (keeps_item {part = part} {x} {kept = kept} at rest) =
+      let P : Cond × T → Type 0 = λ i. IsCond old i.0.0 in
+      keeps_item (λ c listed. keeps.at part.0 c (All-head P (part, x) kept own) (IsConfig-Keeps before listed) ∙ at c listed) (each-later before keeps (All-tail P (part, x) kept own) rest)
+  each-later before keeps own (leaves_item at rest) = leaves_item at (each-later before keeps own rest)
+
+  each-as : {old mid new : Sets} (by t : List ℕ → Bool) {items kept : List (Cond × T)} → Keeps old mid → All (λ (i : Cond × T). IsCond old i.0.0) items → ((c : List ℕ) → IsConfig old.arities c → by c ≡ t c)
+      → KeepsEach mid by new items kept → KeepsEach old t new items kept
+  each-as by t keeps own same no_items = no_items
+  each-as {old} by t keeps own same (keeps_item {cond} {x = x} {items} at rest) =
+      let P : Cond × T → Type 0 = λ i. IsCond old i.0.0 in
+      keeps_item (λ c listed. at c (IsConfig-Keeps keeps listed) ∙ (λ i. keeps.at cond.0 c (All-head P (cond, x) items own) listed i && same c listed i)) (each-as by t keeps (All-tail P (cond, x) items own) same rest)
+  each-as {old} by t keeps own same (leaves_item {cond} {x} {items} at rest) =
+      let P : Cond × T → Type 0 = λ i. IsCond old i.0.0 in
+      leaves_item (λ c listed. sym (λ i. keeps.at cond.0 c (All-head P (cond, x) items own) listed i && same c listed i) ∙ at c (IsConfig-Keeps keeps listed)) (each-as by t keeps (All-tail P (cond, x) items own) same rest)
+
+  each-next : {first old new : Sets} {items kept next : List (Cond × T)} (by part : Cond) (item : Cond × T) → Keeps first old → Keeps old new → KeepsEach first (first.has by.0) new items kept
+      → Denotes new part.0 (λ c. first.has item.0.0 c && first.has by.0 c) → Adds new part.0 (part, item.1) kept next → KeepsEach first (first.has by.0) new (items ++ item ∷ []) next
+  each-next {first} {new = new} {items} {kept} by part item before keeps was part_is (added some is) =
+      subst (KeepsEach first (first.has by.0) new (items ++ item ∷ [])) (sym is) (each-append was (keeps_item (λ c listed. part_is.at c (IsConfig-Keeps keeps (IsConfig-Keeps before listed))) no_items))
+  each-next {first} {new = new} {items} {kept} by part item before keeps was part_is (left_out never is) =
+      subst (KeepsEach first (first.has by.0) new (items ++ item ∷ [])) (append-nil kept ∙ sym is)
+      (each-append was (leaves_item (λ c listed. let now = IsConfig-Keeps keeps (IsConfig-Keeps before listed) in sym (part_is.at c now) ∙ never.none c now) no_items))
+
   -- ---- items in the configurations of a test
 
   pub within-none : {s : Sets} (t : List ℕ → Bool) → IsWithin {T = T} s [] t s []
   within-none {s} t = record {
     part = record { own = All-nil (λ (i : Cond × T). IsCond s i.0.0); some = All-nil (λ (i : Cond × T). IsNever s i.0.0 → ⊥); from = All-nil (λ (i : Cond × T). Contains (map (λ (j : Cond × T). j.1) []) i.1) };
+    each = no_items;
     at = λ c listed. none-told (t c);
   }
 
@@ -76,6 +110,7 @@ module _ {T : Type 0} where
   pub within-later : {first old new : Sets} {items kept : List (Cond × T)} {t : List ℕ → Bool} → Keeps first old → Keeps old new → IsWithin first items t old kept → IsWithin first items t new kept
   within-later {kept = kept} before keeps was = record {
     part = part-later keeps was.part;
+    each = each-later before keeps was.part.own was.each;
     at = λ c listed. items_at-Keeps kept c keeps was.part.own (IsConfig-Keeps before listed) ∙ was.at c listed;
   }
 
@@ -84,6 +119,7 @@ module _ {T : Type 0} where
       → ((c : List ℕ) → IsConfig old.arities c → by c ≡ t c) → IsWithin mid items by new kept → IsWithin old items t new kept
   within-as {old} {mid} {items = items} by t keeps own same was = record {
     part = was.part;
+    each = each-as by t keeps own same was.each;
     at = λ c listed. was.at c (IsConfig-Keeps keeps listed)
         ∙ (ap (λ b. if b then items_at mid items c else []) (same c listed) ∙ ap (λ xs. if t c then xs else []) (items_at-Keeps items c keeps own listed));
   }
@@ -93,6 +129,7 @@ module _ {T : Type 0} where
       → Denotes new part.0 (λ c. first.has item.0.0 c && first.has by.0 c) → Adds new part.0 (part, item.1) kept next → IsWithin first (items ++ item ∷ []) (first.has by.0) new next
   within-next {first} {old} {new} {items} {kept} {next} by part item before keeps was part_is adds = record {
     part = part-next items kept next item part part_is.own adds (part-later keeps was.part);
+    each = each-next by part item before keeps (each-later before keeps was.part.own was.each) part_is adds;
     at = λ c listed.
         let mid = IsConfig-Keeps before listed in
         let now = IsConfig-Keeps keeps mid in

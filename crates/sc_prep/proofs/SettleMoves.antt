@@ -7,7 +7,6 @@ use Rattle.sc_base.specs.declared.token.Token as base_token
 use Rattle.sc_expand.proofs.SettledPlaces.{held-moved, settles-moved}
 use Rattle.sc_expand.proofs.TextLemmas.{places-kept, seen-out}
 use Rattle.sc_expand.specs.Moved.{moved, moved_failure}
-use Rattle.sc_expand.specs.Open.{closed}
 use Rattle.sc_expand.specs.Running.{IsDone}
 use Rattle.sc_expand.specs.Running as running
 use Rattle.sc_expand.specs.Seen.{failures_at, provenance_of, seen_at, seen_failure, stores}
@@ -15,19 +14,19 @@ use Rattle.sc_expand.specs.Settling.{IsHeldSettled, IsSettled}
 use Rattle.sc_model.specs.Token.{Place, Token}
 use Rattle.sc_prep.proofs.ApartLemmas.{apart-right, gathers-then}
 use Rattle.sc_prep.proofs.CloseMoves.{empty-seen, plain-by, plain-seen, some-seen}
-use Rattle.sc_prep.proofs.Facts.{All-append, All-nil, Keeps-trans, and_parts, Extends-refl, IsConfig-Keeps, IsConfig-kept, IsTable-Extends, IsTable-Keeps, faults_at-Keeps, faults_at-append, items-bared, items_at-Keeps, macros_at-Extends, macros_at-Keeps}
+use Rattle.sc_prep.proofs.Facts.{All-append, All-nil, Keeps-trans, and_parts, Extends-refl, IsConfig-Keeps, IsConfig-kept, IsTable-Extends, IsTable-Keeps, faults_at-Keeps, faults_at-append, items-bared, items_at-Keeps, items_at-append, macros_at-Extends, macros_at-Keeps}
 use Rattle.sc_prep.proofs.Grown.{held-grown, plain-grown, shown-before, simulates-grown}
 use Rattle.sc_prep.proofs.LeftRuns.{left-settled}
 use Rattle.sc_prep.proofs.Plain.{settles-plain, text-plain}
 use Rattle.sc_prep.proofs.PlainRuns.{unfaulty}
 use Rattle.sc_prep.proofs.PragmaMoves.{awaits-kept}
 use Rattle.sc_prep.proofs.RunLemmas.{part-All}
-use Rattle.sc_prep.proofs.SettledText.{settled-expands, text-as, text-awaits, text-held, text-refused, text-settles}
+use Rattle.sc_prep.proofs.SettledText.{still-waits, text-as, text-awaits, text-held, text-refused, text-settles}
 use Rattle.sc_prep.proofs.Stopping.{stops-as}
-use Rattle.sc_prep.proofs.Terms.{AllHaveSettled, AllPass, Awaited, AwaitsAt, Comes, Cond, Denotes, Expands, Extends, Failure, Forgets, HasSettled, HasText, Hidden, IsAsked, IsCond, IsConfig, IsHeldHidden, IsHeldWalk, IsPlainState, IsPlaced, IsSettledAt, IsStored, IsTable, Keeps, KeepsSettled, LineStage, Machine, Macros, Name, OpenRuns, Owns, PlainEach, Provenance, Sets, Settled, Settles, Simulates, StandApart, Stop, StopsAtPlace, StopsBy, StopsStage, Walk, any_machine, any_token, awaits, faults_at, has_none, held_at, hidden_at, is_empty, is_plain, items_at, macros_at, outside, place_alone, seen, seen_hidden, seen_place, token_of, tokens_read, tokens_within}
+use Rattle.sc_prep.proofs.Terms.{AllHaveSettled, AllPass, Awaited, AwaitsAt, Comes, Cond, Denotes, Extends, Failure, Forgets, HasSettled, HasText, Hidden, IsAsked, IsCond, IsConfig, IsHeldHidden, IsHeldWalk, IsPlainState, IsPlaced, IsSettledAt, IsStored, IsTable, Keeps, KeepsSettled, LineStage, Machine, Macros, Name, OpenRuns, Owns, PlainEach, Provenance, Sets, Settled, Settles, Simulates, StandApart, Stop, StopsAtPlace, StopsBy, StopsStage, Walk, any_machine, any_token, awaits, faults_at, has_none, held_at, hidden_at, is_empty, is_plain, items_at, macros_at, outside, place_alone, seen, seen_hidden, seen_place, token_of, tokens_read, tokens_within}
 use Rattle.sc_prep.proofs.Texts.{held_at-append, hidden-grown, items_at-All, hidden_at-append, items_seen-append}
 use Rattle.sc_prep.proofs.WalkMoves.{owns-kept, simulates-kept}
-use Rattle.sc_prep.specs.Gathered.{forgets, keeps_all}
+use Rattle.sc_prep.specs.Gathered.{StillWaits, forgets, keeps_all}
 use Rattle.sc_subst.specs.declared.hidden.Hidden as base_hidden
 
 -- a walk whose store of hide sets has grown
@@ -110,6 +109,15 @@ module _ (files : List (List ℕ)) {names more : List (List ℕ)} {old mid new :
 
     abbrev shown : List base_hidden.Hidden → List (Hidden Place)
     shown hs = map (moved (seen_place files)) (map (seen_hidden more hides) hs)
+
+    -- what is left of it
+    rest-now : old.has asked.0 c ≡ true → old.has live.0 c ≡ true → items_at new next.runs.gathered c ≡ items_at mid s.rest c
+    rest-now is_asked is_live =
+        ap (λ xs. items_at new xs c) puts.gathered
+        ∙ (items_at-append new s.rest puts.left c
+        ∙ ((λ i. items_at-Keeps s.rest c later known.rest.own listed_mid i ++ (puts.stays.at c listed_mid
+        ∙ (λ j. if (keeps.at live.0 c ask.live.own listed ∙ is_live) j && not ((keeps.at asked.0 c ask.own listed ∙ is_asked) j) then items_at mid w.runs.gathered c else [])) i)
+        ∙ append-nil (items_at mid s.rest c)))
 
     gathered-now : (a l : Bool) → old.has asked.0 c ≡ a → old.has live.0 c ≡ l → hidden_at new more files hides next.runs.gathered c ≡ shown (items_at mid s.rest c) ++ (if l && not a then hidden_at mid more files hides w.runs.gathered c else [])
     gathered-now a l is_asked is_live =
@@ -288,11 +296,10 @@ module _ (files : List (List ℕ)) {names more : List (List ℕ)} {old mid new :
     plain-at each true false here held = All-nil (λ (t : base_token.Token). is_plain more t ≡ true)
     plain-at each false n idle is = All-nil (λ (t : base_token.Token). is_plain more t ≡ true)
 
-    -- what is left of it, or what waits becomes where nothing follows
+    -- nothing is left of it, or that still waits
     abbrev EndsHere : Type 0
-    EndsHere = (hidden_at new more files hides next.runs.gathered c ≡ [])
-        ⊎ ((held_at new files next.runs.held.items c ≡ [])
-        × Expands place_alone (macros_at old names w.table c) (hidden_at new more files hides next.runs.gathered c) (closed (hidden_at new more files hides next.runs.gathered c)))
+    EndsHere = (hidden_at new more files hides next.runs.gathered c ≡ []) ⊎ ((held_at new files next.runs.held.items c ≡ [])
+        × StillWaits (provenance_of files) (macros_at old names w.table c) (seen_at (stores new more hides) next.runs.gathered c))
 
     ends-asked : old.has asked.0 c ≡ true → EndsHere
     ends-asked here = by (old.has asked.0 c) here (settles.is c listed)
@@ -300,14 +307,17 @@ module _ (files : List (List ℕ)) {names more : List (List ℕ)} {old mid new :
         all-shown : hidden_at new more files hides next.runs.gathered c ≡ shown (items_at mid s.rest c)
         all-shown = gathered-now true true here (ask.within c listed here) ∙ append-nil (shown (items_at mid s.rest c))
 
+        waits-here : failures_at mid s.held.items c ≡ [] → (seen_at (stores mid more hides) s.rest c ≡ []) ⊎ StillWaits (provenance_of files) (macros_at old names w.table c) (seen_at (stores mid more hides) s.rest c) → EndsHere
+        waits-here none (inl nothing) = inl (all-shown ∙ ap (map (moved (seen_place files))) nothing)
+        waits-here none (inr waiting) = inr (
+          held-now ∙ (λ i. (held-before ∙ not-held here) i ++ map (moved_failure (seen_place files)) (none i)),
+          subst (StillWaits (provenance_of files) (macros_at old names w.table c)) (ap (map (seen_hidden more hides)) (sym (rest-now here (ask.within c listed here)))) waiting,
+        )
+
         by : (b : Bool) → b ≡ true → IsDone (provenance_of files) (macros_at old names w.table c) (seen_at (stores old names w.runs.sets) w.runs.gathered c) (seen_at (stores mid more hides) settles.out c) (seen_at (stores mid more hides) s.rest c) (failures_at mid s.held.items c) b
             → EndsHere
         by b is (running.unasked none left) = absurd (true≢false (sym is))
-        by b is (running.settled none d) = inr (
-          held-now ∙ (λ i. (held-before ∙ not-held here) i ++ map (moved_failure (seen_place files)) (none i)),
-          subst (λ hs. Expands place_alone (macros_at old names w.table c) hs (closed hs)) (sym all-shown)
-              (settled-expands (macros_at old names w.table c) (settles-moved (seen_place files) (places-kept files) (macros_at old names w.table c) d)),
-        )
+        by b is (running.settled none d) = waits-here none (still-waits (macros_at old names w.table c) d)
         by b is (running.refused failure one left d) = inl (all-shown ∙ ap (map (moved (seen_place files))) left)
 
     ends-here : old.has w.acting.0 c ≡ true → (a : Bool) → old.has asked.0 c ≡ a → EndsHere
@@ -391,7 +401,7 @@ module _ (files : List (List ℕ)) {names more : List (List ℕ)} {old mid new :
       let all = Keeps-trans keeps later in
       let macros : macros_at new more w.table c ≡ macros_at old names w.table c = λ i name. (macros_at-Extends grows (IsTable-Keeps all stored.table) c name ∙ macros_at-Keeps all stored.table c name listed) i in
       let Ends : List (List Name) → Macros → Type 0 = λ sets ms. (hidden_at new more files sets next.runs.gathered c ≡ []) ⊎ ((held_at new files next.runs.held.items c ≡ [])
-      × Expands place_alone ms (hidden_at new more files sets next.runs.gathered c) (closed (hidden_at new more files sets next.runs.gathered c))) in
+      × StillWaits (provenance_of files) ms (seen_at (stores new more sets) next.runs.gathered c)) in
       subst (λ (u : Walk). Ends u.runs.sets (macros_at new more u.table c)) (sym puts.same) (subst (Ends hides) (sym macros) ends)
 
   pub has-settled : HasSettled new more files next
@@ -419,7 +429,7 @@ module _ {files names more : List (List ℕ)} {old mid : Sets} {w v : Walk} (kee
   pub stage-stored : IsStored mid more (length files) v
   stage-stored = record { owns = first.simulates.owns; table = first.simulates.table; held = first.held }
 
-  same-machine : (c : List ℕ) (m : Machine) → IsConfig old.arities c → Simulates old names files w c m → Simulates mid more files v c m
+  pub same-machine : (c : List ℕ) (m : Machine) → IsConfig old.arities c → Simulates old names files w c m → Simulates mid more files v c m
   same-machine c m listed simulates =
       let a = first.simulates.at c m listed simulates in
       subst (Simulates mid more files v c) a.done a.simulates

@@ -1,20 +1,23 @@
 -- The text of a run of which a first part has settled, as the run goes on and where it ends.
-use Rattle.std.proofs.Common.{◌≡◌, ◌⊎◌, inl, inr, List, [], ◌∷◌, ◌++◌, append-nil, append_assoc, map, Result, Ok, Err, refl, sym, ap, ◌∙◌, subst}
+use Rattle.std.proofs.Common.{◌≡◌, ℕ, ◌⊎◌, inl, inr, List, [], ◌∷◌, ◌++◌, append-nil, append_assoc, map, Result, Ok, Err, refl, sym, ap, ◌∙◌, subst}
 use Rattle.std.proofs.lemmas.List.{map-append}
 use Rattle.c11_directives.specs.Lines.{Line}
 use Rattle.c11_directives.specs.Pre.{State, with_text}
 use Rattle.c11_macros.proofs.SettledLists.{held-more, settles-more}
 use Rattle.c11_macros.proofs.Settling.{held-again, settle-again}
 use Rattle.c11_macros.specs.Expansion.{Expands, empty}
-use Rattle.c11_macros.specs.Hidden.{Failure, Hidden}
+use Rattle.c11_macros.specs.Hidden.{Failure, Hidden, Provenance}
 use Rattle.c11_macros.specs.Macros.{Macros}
 use Rattle.c11_macros.specs.Runs.{IsHeld, Passes, Runs, Settles, Uses, after_these, alone, begins, call, goes_on, held, object, open_call, open_end, stay, waits, whole}
 use Rattle.c11_macros.specs.Text.{TextExpands, fault_of, place_alone, text_of_answer, token_of, unhidden}
 use Rattle.sc_expand.proofs.SettledEnds.{settles-closed}
+use Rattle.sc_expand.proofs.SettledPlaces.{settles-moved}
+use Rattle.sc_expand.proofs.TextLemmas.{places-kept}
 use Rattle.sc_expand.specs.Open.{closed}
 use Rattle.sc_model.specs.Token.{Place, Token}
 use Rattle.sc_prep.proofs.PragmaMoves.{awaits-append, outside-append}
-use Rattle.sc_prep.specs.Gathered.{HasText, refused, settling}
+use Rattle.sc_prep.proofs.Terms.{IsSettledAt, Sets, Walk, held_at, hidden_at, macros_at, seen_place}
+use Rattle.sc_prep.specs.Gathered.{HasText, StillWaits, refused, settling}
 use Rattle.sc_prep.specs.Pragmas.{Awaited, awaits, no_operator, outside}
 
 abbrev hidden : List Token → List (Hidden Place)
@@ -159,24 +162,41 @@ text-empty s gathered list awaited _ none (refused before new failure run is) =
 
 -- ---- settled once more
 
--- a name that waits does so at once
-waits-again : (macros : Macros) {front source done rest : List (Hidden Place)} {name : Hidden Place} {u : Uses Place} → Runs place_alone macros front source done (waits name rest) u
-    → (v : Uses Place) × Runs place_alone macros (name ∷ []) rest [] (waits name rest) v
-waits-again macros (stay is last run) = waits-again macros run
-waits-again macros (alone is) = (_, alone {front = []} is)
-waits-again macros (open_call is) = (_, open_call {front = []} is)
-waits-again macros (object d body is result run) = waits-again macros run
-waits-again macros (call d arguments close after left rest taken body results is leaves each result run) = waits-again macros run
+module _ {P : Type 0} {provenance : Provenance P} (macros : Macros) where
+  -- a name that waits does so at once
+  waits-again : {front source done rest : List (Hidden P)} {name : Hidden P} {u : Uses P} → Runs provenance macros front source done (waits name rest) u → (v : Uses P) × Runs provenance macros (name ∷ []) rest [] (waits name rest) v
+  waits-again (stay is last run) = waits-again run
+  waits-again (alone is) = (_, alone {front = []} is)
+  waits-again (open_call is) = (_, open_call {front = []} is)
+  waits-again (object d body is result run) = waits-again run
+  waits-again (call d arguments close after left rest taken body results is leaves each result run) = waits-again run
 
--- what is left has settled
-settled-again : {ts done rest : List (Hidden Place)} (macros : Macros) → Settles place_alone macros ts done rest → Settles place_alone macros rest [] rest
-settled-again macros (whole passes) = whole begins
-settled-again macros (open_end u passes run) = let x = waits-again macros run in open_end x.0 begins x.1
+  -- what is left has settled
+  settled-again : {ts done rest : List (Hidden P)} → Settles provenance macros ts done rest → Settles provenance macros rest [] rest
+  settled-again (whole passes) = whole begins
+  settled-again (open_end u passes run) = let x = waits-again run in open_end x.0 begins x.1
+
+  -- nothing is left, or that still waits
+  pub still-waits : {ts done rest : List (Hidden P)} → Settles provenance macros ts done rest → (rest ≡ []) ⊎ StillWaits provenance macros rest
+  still-waits (whole passes) = inl refl
+  still-waits (open_end {rest = rest} {name = name} u passes run) = let x = waits-again run in inr (record { name = name; rest = rest; is = refl; uses = x.0; runs = x.1 })
+
+  still-settled : {ts : List (Hidden P)} → StillWaits provenance macros ts → Settles provenance macros ts [] ts
+  still-settled waiting = subst (λ ts. Settles provenance macros ts [] ts) (sym waiting.is) (open_end waiting.uses begins waiting.runs)
 
 -- and becomes this where nothing follows
-pub settled-expands : {ts done rest : List (Hidden Place)} (macros : Macros) → Settles place_alone macros ts done rest → Expands place_alone macros rest (closed rest)
+settled-expands : {ts done rest : List (Hidden Place)} (macros : Macros) → Settles place_alone macros ts done rest → Expands place_alone macros rest (closed rest)
 settled-expands {rest = rest} macros settles = subst (Expands place_alone macros rest) (nothing-before (closed rest)) (settles-closed place_alone macros (settled-again macros settles))
   where
     nothing-before : (r : Result (List (Hidden Place)) (Failure Place)) → after_these [] r ≡ r
     nothing-before (Ok ts) = refl
     nothing-before (Err failure) = refl
+
+-- so what is gathered becomes this, if anything is
+pub settled-text : (s : Sets) (names files : List (List ℕ)) (w : Walk) (c : List ℕ) → IsSettledAt s names files w c
+    → (hidden_at s names files w.runs.sets w.runs.gathered c ≡ []) ⊎ ((held_at s files w.runs.held.items c ≡ [])
+    × Expands place_alone (macros_at s names w.table c) (hidden_at s names files w.runs.sets w.runs.gathered c) (closed (hidden_at s names files w.runs.sets w.runs.gathered c)))
+settled-text s names files w c (inl nothing) = inl nothing
+settled-text s names files w c (inr both) =
+    let macros = macros_at s names w.table c in
+    inr (both.0, settled-expands macros (settles-moved (seen_place files) (places-kept files) macros (still-settled macros both.1)))

@@ -75,8 +75,8 @@ pub use Rattle.sc_prep.specs.Entering.{Begins, Leaves}
 pub use Rattle.sc_prep.specs.Expressions.{DecidesAt, EvaluatesAt, ExpandsAt, ReplacesAt, deciding_done, deciding_fails, deciding_idle, evaluating_done, evaluating_fails, evaluating_idle, expanding_done, expanding_fails, expanding_idle, failed, replacing_done, replacing_fails, replacing_idle}
 pub use Rattle.sc_prep.specs.Finding.{AddsFile, AreFound, FindsAll, IsSearched, LooksUp, part_of}
 pub use Rattle.sc_prep.specs.Footprints.{Comes, ComesAt, ComesIn, ComesInside, ComesOver, HaveLists, StopsAmong, StopsAtPlace, StopsByLists, StopsWalk, any_machine, decides, does, here, later, past_all, within}
-pub use Rattle.sc_prep.specs.Gathered.{Forgets, HasText, IsLeft, held_at, hidden_at}
-pub use Rattle.sc_prep.specs.Includes.{ArePartsOf, EntersAt, Finds, enters, files_at}
+pub use Rattle.sc_prep.specs.Gathered.{Forgets, HasText, held_at, hidden_at, IsLeft, StillWaits}
+pub use Rattle.sc_prep.specs.Includes.{AreOnce, ArePartsOf, enters, EntersAt, files_at, Finds}
 pub use Rattle.sc_prep.specs.Machine.{Answers, Carried, CarriesOut, Decided, Machine, RunExpands, Runs, SaysAt, Takes, acting, acting_unless, acts, arriving, asks_by, branched_as, carries, changed_by, changing, closes, closing_run, defined_as, defined_over, ended, ends_run, is_taken, name_test, next_branch, opened, opened_as, plain_by, plain_step, refusal, refusal_of, refusing, refusing_if, start, step, step_by, takes, turned}
 pub use Rattle.sc_prep.specs.Naming.{AddsHeader, AreHeaders, ArePlainNames, NamesAll, NamesAt, OwnsHeaders, fails, headers_in, idle, is_unnamed, named_in, names, unnamed_in, with_named}
 pub use Rattle.sc_prep.specs.Once.{AreOnceHeld, MarksFile, OwnsOnce, is_marked, once_at}

@@ -10,7 +10,7 @@ use Rattle.sc_prep.proofs.LeadMoves.{contents-stay, leads-one}
 use Rattle.sc_prep.proofs.LineSteps.{directive-now, line-of_file, lines-all, lines-long}
 use Rattle.sc_prep.proofs.Passing.{next-passed, one-more}
 use Rattle.sc_prep.proofs.PlainRuns.{each-any, in-more, placed-plain, runs-plain, seen-plain}
-use Rattle.sc_prep.proofs.Terms.{Agrees, AllByRecursion as Every, AllPass, AreContents, AreHeldLines, ArePlainPaths, Closed, Contents, Context, Covers, EndsAt, Entry, Extends, FileLines, Files, IsAtTop, IsContext, IsHeld, IsIn, IsNever, IsPlaced, IsPlainToken, IsSound, Keeps, KeepsContents, Leads, Line, Machine, PlainEach, Runs, Sets, SimulatesOneOf, Space, Takes, Walk, any_machine, directive_at, has_no_newline, is_plain, no_line, seen_line, seen_lines, text_at, tokens_of, unwrap_or}
+use Rattle.sc_prep.proofs.Terms.{Agrees, AllByRecursion as Every, AllPass, AreContents, AreHeldLines, ArePlainPaths, Closed, Contents, Context, Covers, EndsAt, Entry, Extends, FileLines, Files, IsAtTop, IsContext, IsHeld, IsIn, IsNever, IsPlaced, IsPlainToken, IsSound, Keeps, KeepsContents, Leads, Line, Machine, PlainEach, Runs, Sets, SimulatesOneOf, Space, Takes, Walk, any_machine, directive_at, has_no_newline, is_plain, line_at, no_line, seen_line, seen_lines, text_at, tokens_of, unwrap_or}
 
 every-take : {A : Type 0} (P : A → Type 0) (n : ℕ) (xs : List A) → Every P xs → Every P (take n xs)
 every-take P zero xs all = tt
@@ -66,6 +66,12 @@ module _ {space : Space} {a b : Sets} {names files mid mid_files : List (List �
         directive-now space.standard names lines.tokens.items lines.lines.items own.lines_are number d within
         (All-weaker (IsPlaced names (length files)) (IsHeld names) (λ t p. p.held) lines.tokens.items own.placed) gone.names_grow
 
+    -- it looks as it did
+    pub line-is : (spoken : List base.Token) → spoken ≡ this_line → seen_line space.standard mid mid_files spoken ≡ line_at file_seen number
+    line-is spoken same =
+        ap (seen_line space.standard mid mid_files) same
+        ∙ (line-later space.standard gone.names_grow gone.files_grow this_line line-placed ∙ sym (line-seen space.standard names files lines.tokens.items lines.lines.items own.lines_are number d within))
+
     line-spelled : All (λ (t : base.Token). is_plain mid t ≡ true) this_line
     line-spelled =
         let P : Line → Type 0 = λ l. Every IsPlainToken l.tokens in
@@ -96,7 +102,7 @@ module _ {space : Space} {a b : Sets} {names files mid mid_files : List (List �
         (λ x config m n o context listed from ran taking at.
         next-passed file_seen x m number next passed o ends (λ is. sym at.acting ∙ (never is).none config (IsConfig-Keeps (Keeps-trans gone.keeps keeps) listed))
         (one-more file_seen x m number (omega (arith, within, lines-long space.standard names lines.tokens.items lines.lines.items own.lines_are files)) ran
-        (subst (λ l. Takes x n l o) (ap (seen_line space.standard mid mid_files) same ∙ (line-later space.standard gone.names_grow gone.files_grow this_line line-placed ∙ sym (line-seen space.standard names files lines.tokens.items lines.lines.items own.lines_are number d within))) taking)))
+        (subst (λ l. Takes x n l o) (line-is spoken same) taking)))
 
   -- ---- the end of the file
   pub gone-over : {c : Sets} {more : List (List ℕ)} {w : Walk} → length lines.lines.items ≤ number → Keeps b c → Extends mid more → SimulatesOneOf mid_files mid b v more c w (λ config m n. Closed m n)

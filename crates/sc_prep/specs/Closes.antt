@@ -13,9 +13,20 @@ pub record IsPart {T : Type 0} (items : List (Cond × T)) (s : Sets) (kept : Lis
   pub some : All (λ item. IsNever s item.0.0 → ⊥) kept
   pub from : All (λ item. Contains (map (λ i. i.1) items) item.1) kept
 
+-- Each item stands there in its configurations of a test, in the same order. Where it has none of
+-- them it may be left out.
+pub data KeepsEach {T : Type 0} (old : Sets) (test : List ℕ → Bool) (new : Sets) : (items kept : List (Cond × T)) → Type 0 where
+  no_items : KeepsEach old test new [] []
+  keeps_item : {cond part : Cond} {x : T} {items kept : List (Cond × T)}
+      → ((c : List ℕ) → IsConfig old.arities c → new.has part.0 c ≡ (old.has cond.0 c && test c))
+      → KeepsEach old test new items kept → KeepsEach old test new ((cond, x) ∷ items) ((part, x) ∷ kept)
+  leaves_item : {cond : Cond} {x : T} {items kept : List (Cond × T)} → ((c : List ℕ) → IsConfig old.arities c → (old.has cond.0 c && test c) ≡ false)
+      → KeepsEach old test new items kept → KeepsEach old test new ((cond, x) ∷ items) kept
+
 -- the items of a list in the configurations of a test
 pub record IsWithin {T : Type 0} (old : Sets) (items : List (Cond × T)) (test : List ℕ → Bool) (new : Sets) (kept : List (Cond × T)) : Type 0 where
   pub part : IsPart items new kept
+  pub each : KeepsEach old test new items kept
   pub at : (c : List ℕ) → IsConfig old.arities c → items_at new kept c ≡ (if test c then items_at old items c else [])
 
 abbrev pub is_empty : {A : Type 0} → List A → Bool

@@ -2,9 +2,9 @@
 -- that it hides, or a fault holds it.
 use Rattle.std.specs.Prelude.{◌≡◌, ℕ, List, [], ◌∷◌, ◌++◌, map}
 use Rattle.c11_directives.specs.Pre.{State}
-use Rattle.c11_macros.specs.Hidden.{Failure, Hidden}
+use Rattle.c11_macros.specs.Hidden.{Failure, Hidden, Provenance}
 use Rattle.c11_macros.specs.Macros.{Macros}
-use Rattle.c11_macros.specs.Runs.{IsHeld, Settles}
+use Rattle.c11_macros.specs.Runs.{IsHeld, Runs, Settles, Uses, waits}
 use Rattle.c11_macros.specs.Text.{place_alone, token_of, unhidden}
 use Rattle.sc_base.specs.declared.fault.Fault as base
 use Rattle.sc_base.specs.declared.id.Cond.{Cond}
@@ -34,6 +34,14 @@ pub record IsLeft (macros : Macros) (run left : List Token) : Type 0 where
   pub done : List (Hidden Place)
   pub is : run ≡ before ++ left
   pub settles : Settles place_alone macros (map unhidden before) done []
+
+-- the first of these tokens waits for what follows them, with all behind it
+pub record StillWaits {P : Type 0} (provenance : Provenance P) (macros : Macros) (ts : List (Hidden P)) : Type 0 where
+  pub name : Hidden P
+  pub rest : List (Hidden P)
+  pub is : ts ≡ name ∷ rest
+  pub uses : Uses P
+  pub runs : Runs provenance macros (name ∷ []) rest [] (waits name rest) uses
 
 -- What was read of runs is kept, or it is forgotten where all of them has settled and no fault
 -- holds one.

@@ -1,5 +1,5 @@
 -- What an #include does, seen at one configuration.
-use Rattle.std.specs.Prelude.{◌≡◌, ℕ, ◌<◌, Bool, true, false, List, [], ◌∷◌, All, map, Some, Result, Ok, Err, slice_get}
+use Rattle.std.specs.Prelude.{◌≡◌, ℕ, ◌<◌, Bool, true, false, List, [], ◌∷◌, All, map, Some, Result, Ok, Err, slice_get, AllPairs}
 use Rattle.c11_directives.specs.Behind.{Says}
 use Rattle.c11_directives.specs.declared.directive.Directive.TheVariants as directive
 use Rattle.c11_directives.specs.Lines.{Line, hash_of}
@@ -24,6 +24,10 @@ files_at s parts config = items_at s (map (λ part. (part.cond, part.file)) part
 pub record ArePartsOf (s : Sets) (contents : Contents) (parts : List Part) : Type 0 where
   pub own : All (λ part. IsCond s part.cond.0) parts
   pub kept : All (λ part. content_at contents part.file.0 ≡ Some (Some part.content.value)) parts
+
+-- each file is entered once
+abbrev pub AreOnce : List Part → Type 0
+AreOnce parts = AllPairs (λ one other. one ≡ other → ⊥) (map (λ part. part.file) parts)
 
 -- What an #include finds at a configuration: one file, or its refusal; nothing where the machine
 -- does nothing.

@@ -12,6 +12,7 @@ pub mod Machine
 pub mod Naming
 pub mod New
 pub mod Once
+pub mod OneElement
 pub mod Passes
 pub mod Pragmas
 pub mod Preprocesses
@@ -20,4 +21,5 @@ pub mod Read
 pub mod Settles
 pub mod Simulates
 pub mod Stages
+pub mod Thin
 pub mod Valid

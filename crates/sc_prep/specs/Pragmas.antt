@@ -1,5 +1,5 @@
 -- How far the configurations have read a `_Pragma` operator.
-use Rattle.std.specs.Prelude.{◌≡◌, ℕ, ◌&&◌, ◌<◌, ◌++◌, not, Bool, true, false, List, [], ◌∷◌, All, Option, Some, None, is_some, is_none, map, if◌then◌else◌}
+use Rattle.std.specs.Prelude.{◌≡◌, ℕ, ◌&&◌, ◌<◌, ◌++◌, not, Bool, true, false, List, [], ◌∷◌, All, Option, Some, None, is_some, is_none, length, map, slice_get, take, if◌then◌else◌}
 use Rattle.std.specs.Option.{option_to_list}
 use Rattle.c11_directives.specs.Pragmas.{is_closing, is_opening, is_pragma, is_text}
 use Rattle.sc_base.specs.declared.fault.Fault as base
@@ -7,6 +7,7 @@ use Rattle.sc_base.specs.declared.id.Cond.{Cond}
 use Rattle.sc_base.specs.declared.token.Token as base_token
 use Rattle.sc_base.specs.declared.place.Place as base_place
 use Rattle.sc_base.specs.Seen.{seen, seen_place}
+use Rattle.sc_expand.specs.Thin.{IsNth}
 use Rattle.sc_guarded.specs.Items.{faults_at, items_at, seen_fault}
 use Rattle.sc_model.specs.declared.cause.Cause.TheVariants.{BadPragma}
 use Rattle.sc_model.specs.Fault.{Fault, fault_at}
@@ -124,6 +125,21 @@ pub record BeginsPragma (old : Sets) (p : Pragmas) (cond : ℕ) (place : base_pl
 abbrev pub tokens_within : (names files : List (List ℕ)) → Sets → List (Cond × base_token.Token) → ℕ → List ℕ → List Token
 tokens_within names files s items by c = if s.has by c then map (seen names files) (items_at s items c) else []
 
+-- so many first tokens of those that it has of the items
+abbrev pub first_tokens : (names files : List (List ℕ)) → Sets → List (Cond × base_token.Token) → List ℕ → ℕ → List Token
+first_tokens names files s items c n = take n (map (seen names files) (items_at s items c))
+
+-- An item that a configuration of the condition has, and that is none of an operator, is put out in
+-- an element that the index of the item tells. It stands there behind what was put out of the items
+-- before it.
+pub record PutsEach (names : List (List ℕ)) (old : Sets) (p : Pragmas) (items : List (Cond × base_token.Token)) (by : ℕ)
+    (new : Sets) (kept : List (Cond × base_token.Token)) : Type 0 where
+  pub place : ℕ → ℕ
+  pub at : (files : List (List ℕ)) (c : List ℕ) (a : Awaited) → IsConfig old.arities c → AwaitsAt old files p c a → old.has by c ≡ true
+      → (n i : ℕ) (item : Cond × base_token.Token) → IsNth old items c n i → slice_get items i ≡ Some item
+      → is_outside (awaits a (first_tokens names files old items c n)) (seen names files item.1) ≡ true
+      → IsNth new kept c (length (outside a (first_tokens names files old items c n))) (place i)
+
 -- The configurations of a condition read items, and those that are none of an operator are put
 -- behind a list.
 pub record PutsOutside (names : List (List ℕ)) (old : Sets) (p : Pragmas) (items : List (Cond × base_token.Token)) (by : ℕ) (list : List (Cond × base_token.Token))
@@ -138,6 +154,7 @@ pub record PutsOutside (names : List (List ℕ)) (old : Sets) (p : Pragmas) (ite
       → AwaitsAt new files q c (awaits a (tokens_within names files old items by c))
   pub puts : (files : List (List ℕ)) (c : List ℕ) (a : Awaited) → IsConfig old.arities c → AwaitsAt old files p c a
       → map (seen names files) (items_at new kept c) ≡ outside a (tokens_within names files old items by c)
+  pub each : PutsEach names old p items by new kept
   pub placed : (files : ℕ) → All (λ item. item.1.place.file.0 < files) items → ArePragmasPlaced files p → ArePragmasPlaced files q
 
 -- Runs end: the same, and where none of the faults stands, there is one more for an operator that

@@ -1,12 +1,14 @@
 -- What a file gives under all configurations, seen at one.
-use Rattle.std.specs.Prelude.{◌≡◌, ℕ, Bool, true, false, List, [], ◌∷◌, map, All, Option, Some, Result, Ok, Err}
+use Rattle.std.specs.Prelude.{◌≡◌, ℕ, ◌+◌, Bool, true, false, List, [], ◌∷◌, map, All, Option, Some, Result, Ok, Err}
 use Rattle.c11_directives.specs.Pre.{Pre}
+use Rattle.c11_directives.specs.PutOut.{FilesPutOut}
 use Rattle.sc_base.specs.declared.fault.Fault as base
 use Rattle.sc_base.specs.declared.id.Cond.{Cond}
 use Rattle.sc_base.specs.declared.stop.Stop.{Stop}
 use Rattle.sc_base.specs.declared.stop.Stop.TheVariants.{BranchesFull, ReadFault, OutOfMemory}
-use Rattle.sc_expand.specs.Stops.{StopsBy}
+use Rattle.sc_expand.specs.Stops.{HasConfigs, StopsBy}
 use Rattle.sc_prep.specs.Contents.{end_of_file}
+use Rattle.sc_prep.specs.OneElement.{IsThin}
 use Rattle.sc_prep.specs.declared.prepared.Prepared.{Prepared}
 use Rattle.sc_guarded.specs.Items.{items_at, faults_at, seen_fault}
 use Rattle.sc_base.specs.declared.token.Token as base_token
@@ -42,12 +44,14 @@ pub record IsLeftOut (s : Sets) (p : Prepared) (config : List ℕ) : Type 0 wher
 
 -- At each configuration that was live the lists are what ordinary preprocessing gives there, of
 -- files that the source may hold: where it tells what it holds, of these. The others are left out.
--- Where a configuration is live the end is that of the main file.
+-- Where a configuration is live the end is that of the main file. Where there are no more
+-- configurations than the limit, the list is thin.
 pub record IsPreparedFrom (old : Sets) (live : ℕ) (s : Sets) (names files : List (List ℕ)) (p : Prepared) (space : Space) (holds : Option Files) (main : List ℕ) : Type 0 where
   pub outside : Files
   pub held : (told : Files) → holds ≡ Some told → outside ≡ told
   pub ordinary : (config : List ℕ) → IsConfig old.arities config → old.has live config ≡ true → IsOrdinary s names files p (Pre space outside main config) config
   pub others : (config : List ℕ) → IsConfig old.arities config → old.has live config ≡ false → IsLeftOut s p config
+  pub thin : (HasConfigs old.arities (space.branches + 1) → ⊥) → IsThin s p.list p.live.0 (FilesPutOut space outside main)
   pub ends : (bytes : List ℕ) (config : List ℕ) → outside main ≡ Some bytes → IsConfig old.arities config → s.has p.live.0 config ≡ true → seen_place files p.end ≡ end_of_file main bytes
 
 -- the configuration has this fault alone

@@ -1,21 +1,17 @@
 -- What settling a list leaves of it, and what ends runs that have settled.
 use Rattle.std.specs.Prelude.{◌≡◌, ◌⊎◌, ℕ, ◌&&◌, ◌++◌, not, true, List, [], All, map}
-use Rattle.c11_macros.specs.Expansion.{Expands}
 use Rattle.c11_macros.specs.Hidden.{Failure}
-use Rattle.c11_macros.specs.Text.{place_alone}
 use Rattle.sc_base.specs.declared.fault.Fault.{Fault}
 use Rattle.sc_base.specs.declared.id.Cond.{Cond}
 use Rattle.sc_base.specs.declared.place.Place.{Place}
-use Rattle.sc_base.specs.declared.token.Token.{Token}
 use Rattle.sc_base.specs.Seen.{IsHeld}
 use Rattle.sc_expand.specs.Closing.{IsClosed}
-use Rattle.sc_expand.specs.Open.{closed}
-use Rattle.sc_expand.specs.Seen.{seen_failure}
+use Rattle.sc_expand.specs.Seen.{provenance_of, seen_at, seen_failure, stores}
 use Rattle.sc_expand.specs.declared.settling.Settled.{Settled}
 use Rattle.sc_guarded.specs.declared.expanded.Expanded.{Expanded}
 use Rattle.sc_model.specs.Sets.{Sets, Denotes, IsCond, IsConfig, Keeps}
 use Rattle.sc_prep.specs.Closes.{IsWithin, has_none}
-use Rattle.sc_prep.specs.Gathered.{held_at, hidden_at}
+use Rattle.sc_prep.specs.Gathered.{StillWaits, held_at, hidden_at}
 use Rattle.sc_prep.specs.Pragmas.{EndsPragmas, PutsOutside}
 use Rattle.sc_prep.specs.Read.{EndsRead}
 use Rattle.sc_prep.specs.declared.walk.Walk.{Walk}
@@ -94,12 +90,11 @@ pub record EndsRuns (names : List (List ℕ)) (old : Sets) (walk : Walk) (new : 
   pub live : Denotes new next.prepared.live.0 (λ c. old.has walk.prepared.live.0 c && has_none last faults c)
   pub acting : Denotes new next.acting.0 (λ c. old.has walk.acting.0 c && has_none last faults c)
 
--- Of what the configuration has gathered nothing is left, or it has settled and nothing holds it:
--- where nothing follows it becomes this.
+-- of what the configuration has gathered nothing is left, or it still waits and nothing holds it
 abbrev pub IsSettledAt : Sets → (names files : List (List ℕ)) → Walk → List ℕ → Type 0
 IsSettledAt s names files w c = (hidden_at s names files w.runs.sets w.runs.gathered c ≡ [])
     ⊎ ((held_at s files w.runs.held.items c ≡ [])
-    × Expands place_alone (macros_at s names w.table c) (hidden_at s names files w.runs.sets w.runs.gathered c) (closed (hidden_at s names files w.runs.sets w.runs.gathered c)))
+    × StillWaits (provenance_of files) (macros_at s names w.table c) (seen_at (stores s names w.runs.sets) w.runs.gathered c))
 
 -- so is the text of each that acts
 abbrev pub HasSettled : Sets → (names files : List (List ℕ)) → Walk → Type 0

@@ -7,9 +7,10 @@ ghost use Rattle.sc_prep.specs.Closes.{IsWithin, RefusesEach};
 ghost use Rattle.sc_prep.specs.Machine.{acts};
 ghost use Rattle.sc_prep.specs.Read.{tokens_read};
 ghost use Rattle.sc_prep.specs.Simulates.{Closed, Owns};
-ghost use Rattle.sc_prep.specs.Settles.{EndsRuns, TakesEnded, fault_items};
+ghost use Rattle.sc_prep.specs.Settles.{EndsRuns, HasSettled, TakesEnded, fault_items};
 ghost use Rattle.sc_subst.specs.Seen.{IsHeldHidden};
 ghost use Rattle.sc_prep.specs.Stages.{IsStored, LineStage, StopsStage};
+ghost use Rattle.sc_prep.specs.Thin.{KeepsShares, SharesWithin};
 
 use crate::settling::hold;
 use crate::walk::Walk;
@@ -34,6 +35,7 @@ impl Walk {
         requires stored { IsStored (C.sets conds.old) names.old (length files.now) self.old }
         ensures closes { OnOk result (LineStage files.now names.old (C.sets conds.old) self.old [] names.new (C.sets conds.new) self.new
             (λ config m n. Closed m n)) }
+        ensures shares { OnOk result (SharesWithin limit files.now names.old (C.sets conds.old) self.old files.now names.new (C.sets conds.new) self.new) }
         ensures stops { IfErr result (StopsStage (C.sets conds.old) names.old files.now self.old (tokens_read self.old.runs.read)
             (λ config m f. (acts m ≡ true) × NameHas m.state.macros m.state.run f) limit) }
 
@@ -61,6 +63,9 @@ impl Walk {
         requires owns { Owns (C.sets conds.old) self.old }
         requires held { All (λ item. IsHeldHidden names.now self.old.runs.sets item.1) self.old.runs.gathered }
         ensures ends { OnOk result (EndsRuns names.now (C.sets conds.old) self.old (C.sets conds.new) self.new) }
+        ensures shares { OnOk result ((files : List (List ℕ)) → IsStored (C.sets conds.old) names.now (length files) self.old
+            → HasSettled (C.sets conds.old) names.now files self.old
+            → KeepsShares files names.now (C.sets conds.old) self.old files names.now (C.sets conds.new) self.new) }
 
         // at every outcome
         ensures keeps { Keeps (C.sets conds.old) (C.sets conds.new) }

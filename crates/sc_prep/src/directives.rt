@@ -1,4 +1,4 @@
-ghost use Rattle.std.specs.Prelude.{◌≡◌, ℕ, ◌<◌, ◌&&◌, ◌++◌, List, All, None, Some, Ok, true, false, length, OnOk, IfErr, IfOk, IfSome, if◌then◌else◌};
+ghost use Rattle.std.specs.Prelude.{◌≡◌, ℕ, ◌<◌, ◌&&◌, ◌++◌, List, All, None, Some, Ok, true, false, length, OnOk, IfErr, IfOk, IfSome, if◌then◌else◌, ◌+◌};
 ghost use Rattle.std.specs.Option.{option_map};
 ghost use Rattle.sc_base.specs.Seen.{IsHeld, text_at};
 ghost use Rattle.sc_base.specs.declared.stop.Stop.TheVariants as stop;
@@ -14,7 +14,7 @@ ghost use Rattle.sc_macro.specs.Reads.{seen_defined};
 ghost use Rattle.sc_macro.specs.Seen.{IsHeldDefinition};
 ghost use Rattle.sc_model.specs.declared.standard.Standard.{Standard};
 ghost use Rattle.sc_model.specs.Growth.{Extends};
-ghost use Rattle.sc_prep.specs.Apart.{GathersFrom};
+ghost use Rattle.sc_prep.specs.Apart.{GathersFrom, StandApart};
 ghost use Rattle.sc_prep.specs.Footprints.{ComesAt};
 ghost use Rattle.sc_prep.specs.Machine as machine;
 ghost use Rattle.sc_prep.specs.Machine.{Decided, Takes, acts, changed_by, changing, defined_as, ends_run, plain_by};
@@ -23,7 +23,9 @@ ghost use Rattle.sc_prep.specs.Simulates.{Owns, SimulatesStep, StepsBetweenRuns}
 ghost use Rattle.sc_lines.specs.Nests.{seen_line};
 ghost use Rattle.sc_prep.specs.Printable.{IsPlaced, StaysHeld};
 ghost use Rattle.sc_prep.specs.Stages.{IsStored, LineStage, Stage, StopsStage};
+ghost use Rattle.sc_prep.specs.Thin.{KeepsShares, SharesWithin, TextShares};
 ghost use Rattle.sc_table.specs.Table.{IsTable, IsStill, macros_at};
+ghost use Rattle.sc_expand.specs.Stops.{HasConfigs};
 
 use crate::walk::Walk;
 use c11_directives::{Conditional, Directive};
@@ -55,6 +57,9 @@ impl Walk {
         requires stored { IsStored (C.sets conds.old) names.old (length files.now) self.old }
         ensures takes { OnOk result ((x : Context) → LineStage files.now names.old (C.sets conds.old) self.old tokens.now
             names.new (C.sets conds.new) self.new (λ config m n. Takes x m (seen_line standard names.old files.now tokens.now) n)) }
+        ensures shares { OnOk result (SharesWithin limit files.now names.old (C.sets conds.old) self.old files.now names.new (C.sets conds.new) self.new) }
+        ensures text { OnOk result ((HasConfigs (C.sets conds.old).arities (limit + 1) → ⊥) → StandApart tokens.now
+            → TextShares files.now names.old (C.sets conds.old) self.old (seen_line standard names.old files.now tokens.now) names.new (C.sets conds.new) self.new) }
         ensures stops { (x : Context) → IfErr result (StopsStage (C.sets conds.old) names.old files.now self.old (tokens_read self.old.runs.read ++ tokens.now)
             (λ config m. MomentsHave (ComesAt x m (seen_line standard names.old files.now tokens.now))) limit) }
 
@@ -103,6 +108,9 @@ impl Walk {
         requires stored { IsStored (C.sets conds.old) names.old (length files.now) self.old }
         ensures takes { OnOk result ((x : Context) → LineStage files.now names.old (C.sets conds.old) self.old line.now names.new (C.sets conds.new) self.new
             (λ config m n. Takes x m (seen_line standard names.old files.now line.now) n)) }
+        ensures shares { OnOk result (SharesWithin limit files.now names.old (C.sets conds.old) self.old files.now names.new (C.sets conds.new) self.new) }
+        ensures text { OnOk result ((HasConfigs (C.sets conds.old).arities (limit + 1) → ⊥) → StandApart line.now
+            → TextShares files.now names.old (C.sets conds.old) self.old (seen_line standard names.old files.now line.now) names.new (C.sets conds.new) self.new) }
         ensures stops { (x : Context) → IfErr result (StopsStage (C.sets conds.old) names.old files.now self.old (tokens_read self.old.runs.read ++ line.now)
             (λ config m. MomentsHave (ComesAt x m (seen_line standard names.old files.now line.now))) limit) }
 
@@ -141,6 +149,7 @@ impl Walk {
         requires stored { IsStored (C.sets conds.old) names.old (length files.now) self.old }
         ensures takes { OnOk result ((x : Context) → LineStage files.now names.old (C.sets conds.old) self.old line.now names.new (C.sets conds.new) self.new
             (λ config m n. Takes x m (seen_line standard names.old files.now line.now) n)) }
+        ensures shares { OnOk result (SharesWithin limit files.now names.old (C.sets conds.old) self.old files.now names.new (C.sets conds.new) self.new) }
         ensures stops { (x : Context) → IfErr result (StopsStage (C.sets conds.old) names.old files.now self.old (tokens_read self.old.runs.read ++ line.now)
             (λ config m. MomentsHave (ComesAt x m (seen_line standard names.old files.now line.now))) limit) }
 
@@ -208,6 +217,9 @@ impl Walk {
         ensures moved { OnOk result ((standard : Standard) (names : List (List ℕ)) → SimulatesStep names (C.sets conds.now) self.old (C.sets conds.now) self.new
             (λ files config m. plain_by m (seen_line standard names files line.now) directive)) }
         ensures gathers { OnOk result (GathersFrom line.now self.old self.new) }
+        ensures shares { OnOk result ((names files : List (List ℕ)) → KeepsShares files names (C.sets conds.now) self.old files names (C.sets conds.now) self.new) }
+        ensures text { OnOk result (directive ≡ None → (standard : Standard) (names files : List (List ℕ)) → StandApart line.now
+            → TextShares files names (C.sets conds.now) self.old (seen_line standard names files line.now) names (C.sets conds.now) self.new) }
     {
         match directive {
             None => self.put(conds, line),
@@ -235,6 +247,8 @@ impl Walk {
             (λ files config m. plain_by m (seen_line standard names.now files line.now) (Some directive))) }
         ensures memory { IfErr result (λ s. s ≡ stop.OutOfMemory) }
         ensures gathers { OnOk result (GathersFrom line.now self.old self.new) }
+        ensures runs { OnOk result (self.new.runs ≡ self.old.runs) }
+        ensures list { OnOk result (self.new.prepared.list ≡ self.old.prepared.list) }
         ensures keeps { Keeps (C.sets conds.old) (C.sets conds.new) }
     {
         match directive {
@@ -263,6 +277,7 @@ impl Walk {
             (λ files config m. plain_by m (seen_line standard names files line.now) (Some directive))) }
         ensures memory { IfErr result (λ s. s ≡ stop.OutOfMemory) }
         ensures runs { OnOk result (self.new.runs ≡ self.old.runs) }
+        ensures list { OnOk result (self.new.prepared.list ≡ self.old.prepared.list) }
         ensures keeps { Keeps (C.sets conds.old) (C.sets conds.new) }
     {
         match refusal(directive) {
@@ -291,6 +306,7 @@ impl Walk {
             (changed_by m.state.macros (seen_line standard names.now files line.now) kind.Define))) }
         ensures memory { IfErr result (λ s. s ≡ stop.OutOfMemory) }
         ensures runs { OnOk result (self.new.runs ≡ self.old.runs) }
+        ensures list { OnOk result (self.new.prepared.list ≡ self.old.prepared.list) }
         ensures keeps { Keeps (C.sets conds.old) (C.sets conds.new) }
     {
         match read_define(alloc, names, standard, line) {
@@ -319,6 +335,7 @@ impl Walk {
             definition))))) }
         ensures memory { IfErr result (λ s. s ≡ stop.OutOfMemory) }
         ensures runs { OnOk result (self.new.runs ≡ self.old.runs) }
+        ensures list { OnOk result (self.new.prepared.list ≡ self.old.prepared.list) }
         ensures keeps { Keeps (C.sets conds.old) (C.sets conds.new) }
     {
         let refused = self.table.define(conds, names, definition, self.acting)?;
@@ -344,6 +361,7 @@ impl Walk {
             (changed_by m.state.macros (seen_line standard names.now files line.now) kind.Undef))) }
         ensures memory { IfErr result (λ s. s ≡ stop.OutOfMemory) }
         ensures runs { OnOk result (self.new.runs ≡ self.old.runs) }
+        ensures list { OnOk result (self.new.prepared.list ≡ self.old.prepared.list) }
         ensures keeps { Keeps (C.sets conds.old) (C.sets conds.new) }
     {
         match operand(names, line) {
@@ -371,6 +389,7 @@ impl Walk {
             name.0))))) }
         ensures memory { IfErr result (λ s. s ≡ stop.OutOfMemory) }
         ensures runs { OnOk result (self.new.runs ≡ self.old.runs) }
+        ensures list { OnOk result (self.new.prepared.list ≡ self.old.prepared.list) }
         ensures keeps { Keeps (C.sets conds.old) (C.sets conds.new) }
     {
         let refused = self.table.undef(conds, names, name, self.acting)?;

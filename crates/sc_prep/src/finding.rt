@@ -8,7 +8,7 @@ ghost use Rattle.sc_model.specs.Outside.{Files as Outside};
 ghost use Rattle.sc_model.specs.Sets.{IsCond, IsConfig, Keeps};
 ghost use Rattle.sc_prep.specs.Contents.{Agrees, AreContents, KeepsContents, content_at};
 ghost use Rattle.sc_prep.specs.Finding.{AddsFile, AreFound, IsSearched, LooksUp, part_of};
-ghost use Rattle.sc_prep.specs.Includes.{ArePartsOf, files_at};
+ghost use Rattle.sc_prep.specs.Includes.{AreOnce, ArePartsOf, files_at};
 ghost use Rattle.sc_prep.specs.Preprocesses.{ReadsNothing};
 ghost use Rattle.sc_prep.specs.Printable.{ArePlainPaths};
 
@@ -50,6 +50,7 @@ impl Found {
         requires contents { AreContents standard names.old files.old (S.holds src.old) contents.old }
         ensures found { IfOk result (AreFound standard (C.sets conds.old) named.now (text_at files.old including.0)
             (map string_bytes directories.now) names.new files.new contents.new (C.sets conds.new)) }
+        ensures once { IfOk result (λ found. AreOnce found.parts.items) }
         ensures contents { OnOk result (AreContents standard names.new files.new (S.holds src.new) contents.new) }
         ensures paths { OnOk result (ArePlainPaths (map string_bytes directories.now)
             → All (λ n. has_no_newline (string_bytes n.header.name) ≡ true) named.now → ArePlainPaths files.old → ArePlainPaths files.new) }
@@ -90,6 +91,7 @@ impl Found {
         ensures parts { OnOk result ((contents : Contents) → option_map (λ pair. content_at contents pair.0.0) found ≡ option_map
             (λ pair. Some (Some pair.1.value)) found
             → ArePartsOf (C.sets conds.old) contents self.old.parts.items → ArePartsOf (C.sets conds.new) contents self.new.parts.items) }
+        ensures once { OnOk result (AreOnce self.old.parts.items → AreOnce self.new.parts.items) }
 
         // at every outcome
         ensures keeps { Keeps (C.sets conds.old) (C.sets conds.new) }
@@ -177,6 +179,7 @@ fn add_part<C: Conditions>(
     ensures parts { OnOk result ((contents : Contents) → content_at contents file.0 ≡ Some (Some content.value)
         → ArePartsOf (C.sets conds.old) contents parts.old.items
         → ArePartsOf (C.sets conds.new) contents parts.new.items) }
+    ensures once { OnOk result (AreOnce parts.old.items → AreOnce parts.new.items) }
     ensures enters { OnOk result ((c : List ℕ) → IsConfig (C.sets conds.old).arities c → (C.sets conds.old).has cond.0 c ≡ true
         → files_at (C.sets conds.old) parts.old.items c ≡ []
         → files_at (C.sets conds.new) parts.new.items c ≡ file ∷ []) }

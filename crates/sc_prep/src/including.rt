@@ -10,7 +10,7 @@ ghost use Rattle.sc_model.specs.Growth.{Extends};
 ghost use Rattle.sc_model.specs.Sets.{IsCond, Keeps};
 ghost use Rattle.sc_model.specs.Space.{arities_of};
 ghost use Rattle.sc_prep.specs.Contents.{Agrees, KeepsContents};
-ghost use Rattle.sc_prep.specs.Includes.{ArePartsOf, Finds, files_at};
+ghost use Rattle.sc_prep.specs.Includes.{AreOnce, ArePartsOf, Finds, files_at};
 ghost use Rattle.sc_prep.specs.Apart.{StandApart};
 ghost use Rattle.sc_prep.specs.Footprints.{StopsWalk, any_machine};
 ghost use Rattle.sc_prep.specs.Machine.{acts, refusing_if};
@@ -69,6 +69,7 @@ impl Walk {
             (λ config m n. Finds x (seen_line space.now.standard names.old files.old line.now) files.new m
             (files_at (C.sets conds.new) parts.items config) n)) }
         ensures parts { IfOk result (λ parts. ArePartsOf (C.sets conds.new) contents.new parts.items) }
+        ensures once { IfOk result (λ parts. AreOnce parts.items) }
         ensures deep { IfOk result (λ parts. 0 < length parts.items → entry.depth < space.now.limits.include_depth) }
         ensures ready { OnOk result (IsReady space.now.standard (C.sets conds.new) names.new files.new (S.holds src.new) self.new contents.new) }
         ensures list { OnOk result (self.new.prepared.list ≡ self.old.prepared.list) }

@@ -1,5 +1,5 @@
 //! The walk of a file's lines, and of the files that they include.
-ghost use Rattle.std.specs.Prelude.{◌≡◌, ℕ, ◌<◌, ◌≤◌, ◌++◌, [], List, All, length, OnOk, IfErr, Some, true};
+ghost use Rattle.std.specs.Prelude.{◌≡◌, ℕ, ◌<◌, ◌≤◌, ◌++◌, [], List, All, length, OnOk, IfErr, Some, true, ◌+◌};
 ghost use Rattle.c11_directives.specs.Footprints.{MomentsHave};
 ghost use Rattle.c11_directives.specs.Pre.{Context};
 ghost use Rattle.c11_directives.specs.declared.directive.Directive.TheVariants as kind;
@@ -17,8 +17,10 @@ ghost use Rattle.sc_prep.specs.Preprocesses.{Stops};
 ghost use Rattle.sc_prep.specs.Printable.{AllPass, ArePlainPaths, IsPlaced, is_plain};
 ghost use Rattle.sc_prep.specs.Read.{tokens_read};
 ghost use Rattle.sc_prep.specs.Simulates.{Covers, IsAtTop, IsBetweenRuns, IsContext, IsIn, IsReady, Leads, PlainEach};
+ghost use Rattle.sc_prep.specs.Thin.{HaveOne, KeepsSharesOf, Shares, WherePutOut};
 ghost use Rattle.sc_space.specs.Seen.{seen_space};
 ghost use Rattle.sc_space.specs.Sound.{IsSound};
+ghost use Rattle.sc_expand.specs.Stops.{HasConfigs};
 
 use crate::content::{Content, Contents, FileLines};
 use crate::entry::{Entry, deeper};
@@ -56,6 +58,15 @@ impl Walk {
         ensures covers { OnOk result ((x : Context) → IsContext (seen_space space.now) x → Agrees space.now.standard names.new files.new x.files contents.new
             → Leads files.old names.old (C.sets conds.old) self.old files.new names.new (C.sets conds.new) self.new (IsAtTop files.old entry)
             (λ config m n. Covers x (seen_lines space.now.standard names.old files.old file.now.tokens.items) m n)) }
+        ensures shares { OnOk result ((x : Context) → IsContext (seen_space space.now) x → Agrees space.now.standard names.new files.new x.files contents.new
+            → (HasConfigs (C.sets conds.old).arities ((seen_space space.now).branches + 1) → ⊥)
+            → KeepsSharesOf (IsAtTop files.old entry) files.old names.old (C.sets conds.old) self.old
+            files.new names.new (C.sets conds.new) self.new) }
+        ensures put { OnOk result ((x : Context) → IsContext (seen_space space.now) x → Agrees space.now.standard names.new files.new x.files contents.new
+            → (HasConfigs (C.sets conds.old).arities ((seen_space space.now).branches + 1) → ⊥) → StandApart file.now.tokens.items
+            → WherePutOut files.old names.old (C.sets conds.old) self.old (IsAtTop files.old entry)
+            (λ config m. ComesOver x (seen_lines space.now.standard names.old files.old file.now.tokens.items) m) (C.sets conds.new) self.new
+            (λ c d index. HaveOne (C.sets conds.new) self.new.prepared.list c d)) }
         ensures ready { OnOk result (IsReady space.now.standard (C.sets conds.new) names.new files.new (S.holds src.new) self.new contents.new) }
         ensures plain { OnOk result ((x : Context) → IsContext (seen_space space.now) x → Agrees space.now.standard names.new files.new x.files contents.new
             → IsSound (seen_space space.now) → ArePlainPaths files.old → PlainEach (C.sets conds.old) names.old files.old self.old (IsAtTop files.old entry)
@@ -114,6 +125,15 @@ impl Walk {
         ensures takes { OnOk result ((x : Context) → IsContext (seen_space space.now) x → Agrees space.now.standard names.new files.new x.files contents.new
             → Leads files.old names.old (C.sets conds.old) self.old files.new names.new (C.sets conds.new) self.new (IsIn files.old entry)
             (λ config m n. Takes x m (seen_line space.now.standard names.old files.old tokens.now) n)) }
+        ensures shares { OnOk result ((x : Context) → IsContext (seen_space space.now) x → Agrees space.now.standard names.new files.new x.files contents.new
+            → (HasConfigs (C.sets conds.old).arities ((seen_space space.now).branches + 1) → ⊥)
+            → KeepsSharesOf (IsIn files.old entry) files.old names.old (C.sets conds.old) self.old
+            files.new names.new (C.sets conds.new) self.new) }
+        ensures put { OnOk result ((x : Context) → IsContext (seen_space space.now) x → Agrees space.now.standard names.new files.new x.files contents.new
+            → (HasConfigs (C.sets conds.old).arities ((seen_space space.now).branches + 1) → ⊥) → StandApart tokens.now
+            → WherePutOut files.old names.old (C.sets conds.old) self.old (IsIn files.old entry)
+            (λ config m. ComesAt x m (seen_line space.now.standard names.old files.old tokens.now)) (C.sets conds.new) self.new
+            (Shares (C.sets conds.new) names.new files.new self.new)) }
         ensures ready { OnOk result (IsReady space.now.standard (C.sets conds.new) names.new files.new (S.holds src.new) self.new contents.new) }
         ensures plain { OnOk result ((x : Context) → IsContext (seen_space space.now) x → Agrees space.now.standard names.new files.new x.files contents.new
             → IsSound (seen_space space.now) → All (λ token. is_plain names.old token ≡ true) tokens.now
@@ -181,6 +201,15 @@ impl Walk {
         ensures takes { OnOk result ((x : Context) → IsContext (seen_space space.now) x → Agrees space.now.standard names.new files.new x.files contents.new
             → Leads files.old names.old (C.sets conds.old) self.old files.new names.new (C.sets conds.new) self.new (IsIn files.old entry)
             (λ config m n. Takes x m (seen_line space.now.standard names.old files.old line.now) n)) }
+        ensures shares { OnOk result ((x : Context) → IsContext (seen_space space.now) x → Agrees space.now.standard names.new files.new x.files contents.new
+            → (HasConfigs (C.sets conds.old).arities ((seen_space space.now).branches + 1) → ⊥)
+            → KeepsSharesOf (IsIn files.old entry) files.old names.old (C.sets conds.old) self.old
+            files.new names.new (C.sets conds.new) self.new) }
+        ensures put { OnOk result ((x : Context) → IsContext (seen_space space.now) x → Agrees space.now.standard names.new files.new x.files contents.new
+            → (HasConfigs (C.sets conds.old).arities ((seen_space space.now).branches + 1) → ⊥) → StandApart line.now
+            → WherePutOut files.old names.old (C.sets conds.old) self.old (IsIn files.old entry)
+            (λ config m. ComesAt x m (seen_line space.now.standard names.old files.old line.now)) (C.sets conds.new) self.new
+            (Shares (C.sets conds.new) names.new files.new self.new)) }
         ensures ready { OnOk result (IsReady space.now.standard (C.sets conds.new) names.new files.new (S.holds src.new) self.new contents.new) }
         ensures plain { OnOk result ((x : Context) → IsContext (seen_space space.now) x → Agrees space.now.standard names.new files.new x.files contents.new
             → IsSound (seen_space space.now) → All (λ token. is_plain names.old token ≡ true) line.now
@@ -226,6 +255,7 @@ impl Walk {
                 &part.content,
             )?;
         }
+        files.one_to_one();
         Ok(())
     }
 
@@ -252,6 +282,15 @@ impl Walk {
         ensures enters { OnOk result ((x : Context) → IsContext (seen_space space.now) x → Agrees space.now.standard names.new files.new x.files contents.new
             → Leads files.old names.old (C.sets conds.old) self.old files.new names.new (C.sets conds.new) self.new IsBetweenRuns
             (λ config m n. EntersAt x (text_at files.old entry.file.0) entry.depth m ((C.sets conds.old).has cond.0 config) n)) }
+        ensures shares { OnOk result ((x : Context) → IsContext (seen_space space.now) x → Agrees space.now.standard names.new files.new x.files contents.new
+            → (HasConfigs (C.sets conds.old).arities ((seen_space space.now).branches + 1) → ⊥)
+            → KeepsSharesOf IsBetweenRuns files.old names.old (C.sets conds.old) self.old
+            files.new names.new (C.sets conds.new) self.new) }
+        ensures put { OnOk result ((x : Context) → IsContext (seen_space space.now) x → Agrees space.now.standard names.new files.new x.files contents.new
+            → (HasConfigs (C.sets conds.old).arities ((seen_space space.now).branches + 1) → ⊥)
+            → WherePutOut files.old names.old (C.sets conds.old) self.old IsBetweenRuns
+            (λ config m chain k. ((C.sets conds.old).has cond.0 config ≡ true) × ComesInside x (text_at files.old entry.file.0) entry.depth m chain k)
+            (C.sets conds.new) self.new (λ c d index. HaveOne (C.sets conds.new) self.new.prepared.list c d)) }
         ensures ready { OnOk result (IsReady space.now.standard (C.sets conds.new) names.new files.new (S.holds src.new) self.new contents.new) }
         ensures plain { OnOk result ((x : Context) → IsContext (seen_space space.now) x → Agrees space.now.standard names.new files.new x.files contents.new
             → IsSound (seen_space space.now) → ArePlainPaths files.old → PlainEach (C.sets conds.old) names.old files.old self.old IsBetweenRuns

@@ -40,6 +40,7 @@ impl Walk {
         ensures moved { OnOk result ((standard : Standard) → SimulatesStep names.now (C.sets conds.old) self.old (C.sets conds.new) self.new
             (λ files config m. plain_by m (seen_line standard names.now files line.now) (Some kind.Pragma))) }
         ensures runs { OnOk result (self.new.runs ≡ self.old.runs) }
+        ensures list { OnOk result (self.new.prepared.list ≡ self.old.prepared.list) }
         ensures keeps { Keeps (C.sets conds.old) (C.sets conds.new) }
     {
         if is_once(names, line) {

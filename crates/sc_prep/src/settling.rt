@@ -11,6 +11,7 @@ ghost use Rattle.sc_prep.specs.Machine.{acts};
 ghost use Rattle.sc_prep.specs.Read.{tokens_read};
 ghost use Rattle.sc_prep.specs.Settles.{AllHaveSettled, HasSettled, IsAsked, KeepsSettled, OwnsSettled};
 ghost use Rattle.sc_prep.specs.Stages.{IsStored, LineStage, StopsStage};
+ghost use Rattle.sc_prep.specs.Thin.{KeepsShares, SharesWithin};
 
 use crate::closing::{append, is_met, within};
 use crate::walk::Walk;
@@ -42,6 +43,7 @@ impl Walk {
         ensures early { OnOk result ((HasConfigs (C.sets conds.old).arities (limit + 1) → ⊥) → (c : List ℕ) → IsConfig (C.sets conds.old).arities c
             → (C.sets conds.old).has self.old.acting.0 c ≡ true → (items_at (C.sets conds.old) self.old.runs.gathered c ≡ [] → ⊥)
             → AllHaveSettled (C.sets conds.new) names.new files.now self.new) }
+        ensures shares { OnOk result (SharesWithin limit files.now names.old (C.sets conds.old) self.old files.now names.new (C.sets conds.new) self.new) }
         ensures stops { IfErr result (StopsStage (C.sets conds.old) names.old files.now self.old (tokens_read self.old.runs.read)
             (λ config m f. (acts m ≡ true) × NameHas m.state.macros m.state.run f) limit) }
 
@@ -80,6 +82,7 @@ impl Walk {
     ) -> Result<(), OutOfMemory>
         requires stored { IsStored (C.sets conds.old) names.old (length files.now) self.old }
         ensures stays { OnOk result (LineStage files.now names.old (C.sets conds.old) self.old [] names.new (C.sets conds.new) self.new (λ config m n. n ≡ m)) }
+        ensures shares { OnOk result (SharesWithin limit files.now names.old (C.sets conds.old) self.old files.now names.new (C.sets conds.new) self.new) }
 
         // at every outcome
         ensures keeps { Keeps (C.sets conds.old) (C.sets conds.new) }
@@ -142,6 +145,7 @@ impl Walk {
         ensures ends { result ≡ Ok true → HasSettled (C.sets conds.new) names.new files.now self.new }
         ensures early { OnOk result ((HasConfigs (C.sets conds.old).arities (limit + 1) → ⊥) → AllHaveSettled (C.sets conds.new) names.new files.now self.new) }
         ensures full { result ≡ Ok false → HasConfigs (C.sets conds.old).arities (limit + 1) }
+        ensures shares { OnOk result (SharesWithin limit files.now names.old (C.sets conds.old) self.old files.now names.new (C.sets conds.new) self.new) }
 
         // at every outcome
         ensures keeps { Keeps (C.sets conds.old) (C.sets conds.new) }
@@ -177,6 +181,7 @@ impl Walk {
             × (asked.0 ≡ live.0 → AllHaveSettled (C.sets conds.new) names.new files.now self.new) }
         ensures full { result ≡ Ok false → (self.new ≡ record self.old { runs = record self.old.runs { sets = self.new.runs.sets } })
             × HasConfigs (C.sets conds.old).arities (limit + 1) }
+        ensures shares { result ≡ Ok true → asked.0 ≡ live.0 → KeepsShares files.now names.old (C.sets conds.old) self.old files.now names.new (C.sets conds.new) self.new }
 
         // at every outcome
         ensures keeps { Keeps (C.sets conds.old) (C.sets conds.new) }

@@ -5,11 +5,12 @@ ghost use Rattle.sc_model.specs.Sets.{Sets, IsCond, IsNever, Denotes, Keeps, IsC
 ghost use Rattle.c11_directives.specs.Pre.{State, with_text};
 ghost use Rattle.sc_prep.specs.Machine.{Machine, acting, acts, opened, next_branch, ended, refusing, refusing_if, start};
 ghost use Rattle.sc_prep.specs.Simulates.{IsBegun, Owns, SimulatesStep, Simulates};
-ghost use Rattle.sc_prep.specs.Apart.{GathersFrom};
+ghost use Rattle.sc_prep.specs.Apart.{GathersFrom, StandApart};
 ghost use Rattle.sc_prep.specs.Pragmas.{HasNoPragma};
 ghost use Rattle.sc_prep.specs.Preprocesses.{OwnsList};
 ghost use Rattle.sc_lines.specs.Nests.{seen_line};
 ghost use Rattle.sc_prep.specs.Printable.{StaysHeld};
+ghost use Rattle.sc_prep.specs.Thin.{KeepsShares, TextShares};
 
 use crate::once::OnceFile;
 use crate::open_runs::OpenRuns;
@@ -235,6 +236,9 @@ impl Walk {
             (λ files config m. acting m (λ state. with_text state (seen_line standard names files line.now)))) }
         ensures none { IsNever (C.sets conds.now) self.old.acting.0 → self.new ≡ self.old }
         ensures gathers { OnOk result (GathersFrom line.now self.old self.new) }
+        ensures shares { OnOk result ((names files : List (List ℕ)) → KeepsShares files names (C.sets conds.now) self.old files names (C.sets conds.now) self.new) }
+        ensures text { OnOk result ((standard : Standard) (names files : List (List ℕ)) → StandApart line.now
+            → TextShares files names (C.sets conds.now) self.old (seen_line standard names files line.now) names (C.sets conds.now) self.new) }
     {
         if conds.is_never(self.acting) {
             return Ok(());

@@ -1,6 +1,6 @@
-use Rattle.std.proofs.Common.{◌≡◌, ◌∙◌, Some, refl, sym, subst}
+use Rattle.std.proofs.Common.{◌≡◌, ◌∙◌, None, Some, refl, sym, subst}
 use Rattle.sc_prep.proofs.Facts.{Denotes-self}
-use Rattle.sc_prep.proofs.FindLemmas.{joined-enters, joined-others, pushed-enters, pushed-others, own-found}
+use Rattle.sc_prep.proofs.FindLemmas.{once-joined, once-pushed, joined-enters, joined-others, pushed-enters, pushed-others, own-found}
 use Rattle.sc_prep.proofs.Terms.{part_of}
 use Rattle.sc_prep.proofs.finding.add_part.Goals as goal
 
@@ -33,3 +33,10 @@ returns-in_ok-push-in-None-clause-enters g c = λ config listed.
 pub returns-in_ok-push-in-None-clause-others : goal.returns-in_ok-push-in-None-clause-others
 returns-in_ok-push-in-None-clause-others g c = λ config listed.
     pushed-others (g.C.Conditions.sets c.args.conds.now) c.args.parts.now.items c.push.new.self.items _ c.in_ok-push-in-None.ensures.items config
+
+pub returns-in_ok-parts-in-Some-clause-once : goal.returns-in_ok-parts-in-Some-clause-once
+returns-in_ok-parts-in-Some-clause-once g c = once-joined c.args.parts.now.items c.in-Some.index _ c.index_mut.result.now c.index_mut.ensures.value refl
+
+pub returns-in_ok-push-in-None-clause-once : goal.returns-in_ok-push-in-None-clause-once
+returns-in_ok-push-in-None-clause-once g c =
+    once-pushed c.args.parts.now.items c.push.new.self.items _ c.in_ok-push-in-None.ensures.items (subst (λ ps. part_of ps c.args.file.0 ≡ None) c.deref.ensures.value (sym c.index_of.ensures ∙ c.in-None.is))

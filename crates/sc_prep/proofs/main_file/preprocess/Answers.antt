@@ -1,4 +1,4 @@
-use Rattle.std.proofs.Common.{◌∙◌, ◌<◌, ◌&&◌, Global, Option, Some, ap, length, refl, sym, subst}
+use Rattle.std.proofs.Common.{true≢false, ◌∙◌, ◌<◌, ◌&&◌, Global, Option, Some, ap, length, refl, sym, subst}
 use Rattle.c11_directives.specs.Footprints.{FilesHave}
 use Rattle.sc_base.specs.declared.place.Place.{Place}
 use Rattle.sc_prep.proofs.Contents.{may-be-held}
@@ -6,7 +6,7 @@ use Rattle.sc_prep.proofs.Facts.{Denotes-self, Extends-keeps, Extends-trans, Ext
 use Rattle.sc_prep.proofs.FindLemmas.{name-absent}
 use Rattle.sc_prep.proofs.LeadMoves.{stops-later}
 use Rattle.sc_prep.proofs.main_file.preprocess.Goals as goal
-use Rattle.sc_prep.proofs.MainFile.{CanBeShown-end, IsOrdinary-end, begins-new, contents-new, end-inside, entered-is, entered-live, entered-out, entered-shown, entered-stops, limited-live, limited-ordinary, limited-out, limited-owns, limited-shown, limited-was, main-end, none-passed, paths-interned, plain-new, ready-new, refused-is, refused-live, refused-out, refused-owns, refused-shown, space-context}
+use Rattle.sc_prep.proofs.MainFile.{CanBeShown-end, IsOrdinary-end, begins-new, contents-new, end-inside, entered-is, entered-live, entered-out, entered-shown, entered-stops, entered-thin, limited-live, limited-ordinary, limited-out, limited-owns, limited-shown, limited-was, main-end, none-passed, paths-interned, plain-new, ready-new, refused-is, refused-live, refused-out, refused-owns, refused-shown, space-context}
 use Rattle.sc_prep.proofs.MainWalk.{missing-ordinary}
 use Rattle.sc_prep.proofs.NamedFiles.{reading-stops}
 use Rattle.sc_prep.proofs.Stopping.{reading-stops-none}
@@ -40,6 +40,7 @@ returns-in_default-clause-ordinary g c =
           (subst (λ place. IsRefused sets c.read.new.names files ended (fault_at NotFound place) config) (c.first_place-in_default.ensures.place files main named)
           (refused-is fresh keeps main _ c.requires.live_own refuses c.never-never.result none config listed there));
       others = λ config listed out. refused-out fresh keeps main _ c.requires.live_own refuses c.never-never.result none config listed out;
+      thin = λ few. record { one = λ d e now _ live _ _ _ _ _ _ _. absurd (true≢false (sym live ∙ none.at d now)) };
       ends = λ bytes config there listed live. absurd (none-some bytes (sym absent ∙ there));
     }
 
@@ -102,6 +103,11 @@ returns-clause-ordinary g c =
       others = λ config listed not_live.
           let left = limited-out k more more_files p owns live.0 met is config (IsConfig-Keeps entered listed) (entered.at live.0 config c.requires.live_own listed ∙ not_live) (out config listed not_live) in
           record { faults = left.faults; live = left.live };
+      thin = λ few. entered-thin fresh c.enter.new.self entered k main may.outside file live named owns
+          (c.in_ok-enter.ensures.put (context_of space may.outside) (space-context space may.outside) may.agrees few) met
+          (λ config listed now.
+          let was = limited-was k more more_files p owns live.0 met is config (IsConfig-Keeps entered listed) now in
+          (was.0, sym (entered.at live.0 config c.requires.live_own listed) ∙ was.1));
       ends = λ bytes config there listed now.
           let was = limited-was k more more_files p owns live.0 met is config (IsConfig-Keeps entered listed) now in
           ap (seen_place more_files) (c.end_place-walk.ensures ∙ ap end_place c.deref-2.ensures)

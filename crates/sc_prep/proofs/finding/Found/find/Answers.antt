@@ -1,9 +1,10 @@
 use Rattle.std.proofs.Common.{◌≡◌, ◌∙◌, map, true, sym, ap, refl, subst, arith, string_bytes, []}
 use Rattle.sc_prep.proofs.Facts.{Extends-refl, Extends-trans, Keeps-refl, Keeps-trans}
+use Rattle.sc_prep.proofs.FindLemmas.{once-none}
 use Rattle.sc_prep.proofs.FoundFiles.{asked-plain, nothing-found, one-found, parts-kept}
 use Rattle.sc_prep.proofs.LeadMoves.{contents-stay, contents-then}
 use Rattle.sc_prep.proofs.PlainRuns.{path-plain}
-use Rattle.sc_prep.proofs.Terms.{AreContents, ArePlainPaths, IsCond, IsSearched, Named, candidates, has_no_newline, option_map, seen_header, text_at, unwrap_or}
+use Rattle.sc_prep.proofs.Terms.{AreContents, AreOnce, ArePlainPaths, IsCond, IsSearched, Named, candidates, has_no_newline, option_map, seen_header, text_at, unwrap_or}
 use Rattle.sc_prep.proofs.finding.Found.find.Goals as goal
 
 pub loop-name-init : goal.loop-name-init
@@ -18,6 +19,7 @@ loop-name-init g c = record {
   paths = λ directories names files. files;
   found = nothing-found (g.C.Conditions.sets c.args.conds.now) (text_at c.args.files.now c.args.including.0) (map string_bytes c.args.directories.now) c.args.names.now c.args.files.now c.args.contents.now
       (record { parts = c.new.result; missing = c.never.result }) c.new.ensures.items c.never.ensures.meaning;
+  once = subst AreOnce (sym c.new.ensures.items) once-none;
 }
 
 pub add-requires-clause-own : goal.add-requires-clause-own
@@ -56,4 +58,5 @@ loop-name-preserved g c =
       found = one-found c.args.named.now i n (option_map (λ pair. pair.0) c.in_ok-file.file) c.search.ensures.names c.search.ensures.files was.read looks.reads was.keeps within c.name-item.is own was.found
           c.in_ok-add.ensures.adds (λ held agrees. subst (λ paths. IsSearched held c.search.new.files paths (option_map (λ pair. pair.0) c.in_ok-file.file)) asked (c.in_ok-file.ensures.searched held agrees))
           (c.in_ok-add.ensures.parts c.search.new.contents c.in_ok-file.ensures.content (parts-kept looks.reads was.found.parts));
+      once = c.in_ok-add.ensures.once was.once;
     }

@@ -1,5 +1,5 @@
 use Rattle.std.proofs.Common.{◌≡◌, ◌≤◌, All, map, take, true, string_bytes}
-use Rattle.sc_prep.proofs.Terms.{AreContents, AreFound, ArePlainPaths, Extends, Keeps, KeepsContents, Named, has_no_newline, text_at}
+use Rattle.sc_prep.proofs.Terms.{AreContents, AreFound, AreOnce, ArePlainPaths, Extends, Keeps, KeepsContents, Named, has_no_newline, text_at}
 use Rattle.sc_prep.proofs.finding.Found.find.Given as goal
 
 abbrev pub invariant-loop-name : goal.invariant-loop-name
@@ -13,4 +13,5 @@ invariant-loop-name g l = record {
   reads : KeepsContents l.fn.contents l.contents;
   paths : ArePlainPaths (map string_bytes l.directories) → All (λ (n : Named). has_no_newline (string_bytes n.header.name) ≡ true) l.named → ArePlainPaths l.fn.files → ArePlainPaths l.files;
   found : AreFound l.standard (g.C.Conditions.sets l.fn.conds) (take l.name-index l.named) (text_at l.fn.files l.including.0) (map string_bytes l.directories) l.names l.files l.contents (g.C.Conditions.sets l.conds) l.found;
+  once : AreOnce l.found.parts.items;
 }

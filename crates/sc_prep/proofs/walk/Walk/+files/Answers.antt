@@ -1,5 +1,6 @@
-use Rattle.std.proofs.Common.{rules, ◌≡◌, ◌∙◌, ℕ, ◌<◌, List, [], All, Some, refl, sym, ap, subst, arith, length}
+use Rattle.std.proofs.Common.{rules, ◌≡◌, ◌∙◌, ℕ, ◌+◌, ◌<◌, ◌≤◌, List, [], All, Some, refl, sym, ap, subst, arith, get_or, length}
 use Rattle.c11_directives.specs.declared.directive.Directive.TheVariants as kind
+use Rattle.sc_expand.specs.Stops.{HasConfigs}
 use Rattle.sc_lines.specs.declared.line.Line.{Line}
 use Rattle.sc_prep.proofs.ApartLemmas.{gathers-same, gathers-then, apart-left, apart-right, lines-apart}
 use Rattle.sc_prep.proofs.Contents.{agrees-back, IsPlaced-later}
@@ -11,17 +12,22 @@ use Rattle.sc_prep.proofs.FileStops.{comes-inside}
 use Rattle.sc_prep.proofs.Going.{entry-within}
 use Rattle.sc_prep.proofs.IncludeLeads.{gone-closed, gone-entered, gone-found, gone-taken, parts-later}
 use Rattle.sc_prep.proofs.LeadMoves.{content-named, contents-stay, leads-one, limit-stops, ready-moved, ready-begun, ready-kept, ready-left, ready-refused, stops-later, stored-ready}
-use Rattle.sc_prep.proofs.LineSteps.{directive-long, lines-stand}
+use Rattle.sc_prep.proofs.LineSteps.{directive-long, lines-all, lines-long, lines-stand}
+use Rattle.sc_prep.proofs.SharedLines.{puts-over, shares-any, shares-next, shares-none, shares-over}
+use Rattle.sc_prep.proofs.SharedText.{apart-of_file, on_ok_both, text-put}
 use Rattle.sc_prep.proofs.Grown.{held-later}
 use Rattle.sc_prep.proofs.Passing.{next-after}
 use Rattle.sc_prep.proofs.PlainRuns.{each-any, path-plain}
+use Rattle.sc_prep.proofs.SharesEntered.{puts-inside, puts-nowhere, puts-refused, shares-around, shares-still}
+use Rattle.sc_prep.proofs.SharesIncluded.{entered-all, entered-more, entered-none, finds-later}
 use Rattle.sc_prep.proofs.Stopping.{answer-stops}
-use Rattle.sc_prep.proofs.Terms.{AllPass, ArePartsOf, Around, EntersAt, IsBetweenRuns, IsCond, IsIn, IsPlaced, Leads, Part, StandFor, Walk, content_at, directive_at, is_plain, seen_lines, text_at, tokens_read, tokens_of}
-use Rattle.sc_prep.proofs.WalkLeads.{gone-line, gone-nowhere, gone-over, line-directive, line-placed-now}
+use Rattle.sc_prep.proofs.Terms.{AllPass, AreOnce, ArePartsOf, Around, EntersAt, IsBetweenRuns, IsCond, IsIn, IsPlaced, Leads, Part, StandApart, StandFor, Walk, content_at, directive_at, is_plain, seen_line, seen_lines, text_at, tokens_read, tokens_of}
+use Rattle.sc_prep.proofs.WalkLeads.{gone-line, gone-nowhere, gone-over, line-directive, line-is, line-placed-now}
 use Rattle.sc_prep.proofs.WalkMoves.{owns-kept}
 use Rattle.sc_prep.proofs.WalkStops.{apart-first, apart-line, apart-next, end-stops, file-stops, line-stops, to_come}
 use Rattle.sc_prep.specs.Machine as machine
 use Rattle.sc_prep.proofs.walk.Walk.+files.Goals as goal
+use Rattle.sc_prep.proofs.walk.Walk.+files.Goals.{take_line-in_default-via-in-Some+in_default, take_line-in_default-via-in_default}
 
 pub enter-entering-requires-clause-owns : goal.enter-entering-requires-clause-owns
 enter-entering-requires-clause-owns g t c = c.requires.ready.owns
@@ -208,6 +214,7 @@ walk_lines-loop-number-init g t c = record {
   ready = c.requires.ready;
   gone = gone-nowhere (λ x config m. machine.no_line);
   apart = apart-first c.args.entry c.args.file.now c.requires.lines c.args.self.now;
+  shares = λ x context agreed few. shares-none;
   kept = refl;
   counted = omega arith;
 }
@@ -294,6 +301,11 @@ include_line-loop-part-init g t c =
       kept = found.kept;
       counted = found.counted;
       gathers = gathers-then [] c.args.line.now c.args.self.now c.close_runs.new.self c.included.new.self closed.closes.gathers (gathers-same c.args.line.now c.close_runs.new.self c.included.new.self found.runs);
+      once = subst AreOnce (sym c.deref-part-items.ensures.value) found.once;
+      entered = λ x context agrees few.
+          entered-none (seen_line c.args.space.now.standard c.args.names.now c.args.files.now c.args.line.now) c.deref-part-items.result.now closed.keeps found.keeps found.names found.files
+          (stored-ready (ready-moved closed.names closed.closes.simulates closed.closes.held c.requires.ready)) found.runs found.list closed.closes.simulates (closed.shares few)
+          (finds-later c.args.space.now.standard closed.names c.args.line.now c.requires.placed c.in_ok-parts.parts.items c.deref-part-items.result.now c.deref-part-items.ensures.value (found.finds x context agrees));
     }
 
 pub walk_lines-take_line-requires : goal.walk_lines-take_line-requires
@@ -372,6 +384,19 @@ walk_lines-loop-number-preserved g t c =
           c.loop-number.self (inv.apart none apart) c.take_line.new.self c.next_line-number.result
           (next-after (seen_lines c.args.space.now.standard names files lines.tokens.items) c.loop-number.number c.next_line-number.result c.is_never.result (c.next_line-number.ensures (seen_lines c.args.space.now.standard names files lines.tokens.items) (stand files)))
           taken.gathers;
+      shares = λ x context agreed few.
+          let before = agrees-back taken.names taken.files inv.ready.read x.files taken.read agreed in
+          let fewer = subst (λ arities. HasConfigs arities (c.args.space.now.limits.branches + 1) → ⊥) (sym inv.gone.keeps.arities) few in
+          let spoken = tokens_of c.deref.result.now line in
+          let same = ap (λ ts. tokens_of ts line) c.deref.ensures.value ∙ ap (tokens_of lines.tokens.items) c.index-line.ensures in
+          let below : c.loop-number.number < length lines.lines.items = omega (arith, c.loop-number-test.true, c.len.ensures) in
+          shares-next c.args.entry x c.args.space.now.standard lines.tokens.items c.loop-number.number inv.gone.keeps inv.gone.files_grow (inv.gone.leads x context before)
+          (seen_line c.args.space.now.standard c.loop-number.names c.loop-number.files spoken) (line-is c.args.entry lines c.requires.lines c.loop-number.number inv.gone inv.ready.read line below spoken same)
+          (omega (arith, below, lines-long c.args.space.now.standard names lines.tokens.items lines.lines.items c.requires.lines.lines_are files))
+          (taken.takes x context agreed) (taken.shares x context agreed fewer)
+          (λ apart. taken.put x context agreed fewer (subst StandApart (sym same) (apart-of_file lines.tokens.items (get_or lines.lines.items c.loop-number.number line) apart)))
+          taken.keeps c.next_line-number.result c.is_never.result
+          (c.next_line-number.ensures (seen_lines c.args.space.now.standard names files lines.tokens.items) (stand files)) c.is_never.ensures.0 (inv.shares x context before few);
       kept = taken.kept ∙ inv.kept;
       counted = omega (arith, inv.counted, taken.counted);
     }
@@ -429,6 +454,12 @@ include_line-loop-part-preserved g t c =
       kept = entered.kept ∙ inv.kept;
       counted = omega (arith, inv.counted, entered.counted);
       gathers = λ rest apart. gathers-same [] c.loop-part.self c.enter.new.self entered.runs rest (inv.gathers rest apart);
+      once = inv.once;
+      entered = λ x context agreed few.
+          let before = agrees-back entered.names entered.files inv.ready.read x.files entered.read agreed in
+          let few_then = subst (λ arities. HasConfigs arities (c.args.space.now.limits.branches + 1) → ⊥) (sym inv.gone.keeps.arities) few in
+          entered-more parts i c.part-item.result c.deeper.result c.part-item.is within c.deeper.ensures inv.parts.own inv.gone.keeps entered.keeps entered.names entered.files inv.ready.owns.prepared.list
+          (inv.gone.leads x context before) (entered.enters x context agreed) (entered.shares x context agreed few_then) (entered.put x context agreed few_then) (inv.entered x context before few);
     }
 
 pub include_line-returns-clause-takes : goal.include_line-returns-clause-takes
@@ -585,3 +616,114 @@ enter-returns-in_err-walk_lines-in-Lines-clause-footprints g t c = λ x context 
     (comes-inside c.args.files.now c.args.cond c.args.entry keeps
     c.in_ok-inside.ensures.entering
     ready.owns ready.table begins x context.standard c.in-Lines.file named has) (rw (p.1, p.2) stops)
+
+pub enter-returns-in_err-walk_lines-in-Lines-clause-stops : goal.enter-returns-in_err-walk_lines-in-Lines-clause-stops
+enter-returns-in_err-walk_lines-in-Lines-clause-stops g t c =
+    let same : g.S.Source.faults c.args.src.now ≤ g.S.Source.faults c.args.src.now = omega arith in
+    let stops = c.in_err-walk_lines-in-Lines.ensures.stops in
+    let p = err_from_is_err_and c.from_residual-in_err-walk_lines-in-Lines.result c.from_residual-in_err-walk_lines-in-Lines.ensures.1 in
+    stops-later c.args.space.now.limits.branches (g.S.Source.faults c.walk_lines.new.src) c.from_residual-in_err-walk_lines-in-Lines.result c.in_ok-inside.ensures.keeps.arities same
+    (rw (p.1, p.2) stops)
+
+-- ---- what configurations share
+
+pub enter-returns-then-is_never-clause-shares : goal.enter-returns-then-is_never-clause-shares
+enter-returns-then-is_never-clause-shares g t c = λ x context agrees few.
+    shares-still c.in_ok-inside.ensures.keeps c.args.names.now c.args.files.now c.args.self.now c.args.self.now (stored-ready c.requires.ready) refl refl refl
+
+pub enter-returns-then-is_never-clause-put : goal.enter-returns-then-is_never-clause-put
+enter-returns-then-is_never-clause-put g t c = λ x context agrees few.
+    puts-nowhere c.args.files.now c.args.cond c.args.entry c.in_ok-inside.ensures.keeps c.in_ok-inside.ensures.entering c.requires.ready.owns c.requires.ready.table x (c.is_never.ensures.0 c.if-is_never.true) c.args.self.now _
+
+pub enter-returns-in_ok-refuse_at-in-Refused-clause-shares : goal.enter-returns-in_ok-refuse_at-in-Refused-clause-shares
+enter-returns-in_ok-refuse_at-in-Refused-clause-shares g t c = λ x context agrees few.
+    let refuses = c.in_ok-refuse_at-in-Refused.ensures.refuses in
+    shares-still (Keeps-trans c.in_ok-inside.ensures.keeps c.in_ok-refuse_at-in-Refused.ensures.keeps) c.args.names.now c.args.files.now c.args.self.now c.refuse_at.new.self (stored-ready c.requires.ready)
+    (ap (λ (v : Walk). v.runs) refuses.same) (refused-list refuses) (ap (λ (v : Walk). v.table) refuses.same)
+
+pub enter-returns-in_ok-refuse_at-in-Refused-clause-put : goal.enter-returns-in_ok-refuse_at-in-Refused-clause-put
+enter-returns-in_ok-refuse_at-in-Refused-clause-put g t c = λ x context agrees few.
+    puts-refused c.args.files.now c.args.cond c.args.entry c.in_ok-inside.ensures.keeps c.in_ok-inside.ensures.entering c.requires.ready.owns c.requires.ready.table x _ _
+    c.in_ok-refuse_at-in-Refused.ensures.keeps c.in_ok-refuse_at-in-Refused.ensures.refuses _
+
+pub enter-returns-in_ok-end_file-in-Lines-clause-shares : goal.enter-returns-in_ok-end_file-in-Lines-clause-shares
+enter-returns-in_ok-end_file-in-Lines-clause-shares g t c = λ x context agrees few.
+    let walked = c.in_ok-walk_lines-in-Lines.ensures in
+    let ready = c.requires.ready in
+    let keeps = c.in_ok-inside.ensures.keeps in
+    let named = content-named ready.read c.args.entry.file.0 c.requires.content in
+    let held = agrees-back walked.names walked.files ready.read x.files walked.read agrees in
+    let has = kept-lines c.args.entry.file.0 _ held named c.requires.content c.in-Lines.is in
+    let leads = leads-inside c.args.files.now c.args.cond c.args.entry keeps c.in_ok-inside.ensures.entering ready.owns ready.table c.walk_lines.new.names c.walk_lines.new.files walked.keeps c.in_ok-end_file-in-Lines.ensures.keeps
+    c.in_ok-around-in-Lines.ensures c.in_ok-end_file-in-Lines.ensures.leaves walked.names walked.files ready.held walked.ready.owns walked.ready.table x context.standard _ named has (walked.covers x context agrees) in
+    let put_more = (walked.shares x context agrees (subst (λ arities. HasConfigs arities (c.args.space.now.limits.branches + 1) → ⊥) (sym keeps.arities) few)).longer in
+    shares-around c.args.files.now c.args.cond c.args.entry keeps c.in_ok-inside.ensures.entering ready.owns ready.table c.walk_lines.new.names c.walk_lines.new.files walked.keeps c.in_ok-end_file-in-Lines.ensures.keeps
+    c.in_ok-around-in-Lines.ensures c.in_ok-end_file-in-Lines.ensures.leaves walked.names walked.files ready.held walked.ready.owns walked.ready.table x context.standard _ named has (walked.covers x context agrees)
+    put_more.0 put_more.1 (stored-ready ready) leads
+
+pub enter-returns-in_ok-end_file-in-Lines-clause-put : goal.enter-returns-in_ok-end_file-in-Lines-clause-put
+enter-returns-in_ok-end_file-in-Lines-clause-put g t c = λ x context agrees few.
+    let walked = c.in_ok-walk_lines-in-Lines.ensures in
+    let ready = c.requires.ready in
+    let keeps = c.in_ok-inside.ensures.keeps in
+    let named = content-named ready.read c.args.entry.file.0 c.requires.content in
+    let held = agrees-back walked.names walked.files ready.read x.files walked.read agrees in
+    let has = kept-lines c.args.entry.file.0 _ held named c.requires.content c.in-Lines.is in
+    let few_then = subst (λ arities. HasConfigs arities (c.args.space.now.limits.branches + 1) → ⊥) (sym keeps.arities) few in
+    let put_more = (walked.shares x context agrees few_then).longer in
+    puts-inside c.args.files.now c.args.cond c.args.entry keeps c.in_ok-inside.ensures.entering ready.owns ready.table c.walk_lines.new.names c.walk_lines.new.files walked.keeps c.in_ok-end_file-in-Lines.ensures.keeps
+    c.in_ok-around-in-Lines.ensures c.in_ok-end_file-in-Lines.ensures.leaves walked.names walked.files ready.held walked.ready.owns walked.ready.table x context.standard _ named has (walked.covers x context agrees)
+    put_more.0 put_more.1 (walked.put x context agrees few_then (lines-apart has.are))
+
+pub include_line-returns-clause-shares : goal.include_line-returns-clause-shares
+include_line-returns-clause-shares g t c = λ x context agrees few. (c.loop-part.invariant.entered x context agrees few).shares
+
+pub include_line-returns-clause-put : goal.include_line-returns-clause-put
+include_line-returns-clause-put g t c = λ x context agrees few apart.
+    entered-all c.deref-part-items.result.now c.loop-part.part-index (omega (arith, c.loop-part-test.false, c.loop-part.auto.part-index-end)) c.loop-part.invariant.once c.one_to_one.ensures
+    (directive-files c.args.space.now.standard c.args.names.now c.args.files.now c.args.line.now ∙ c.requires.directive) (c.loop-part.invariant.entered x context agrees few)
+
+pub take_line-returns-in_default-clause-shares : goal.take_line-returns-in_default-clause-shares
+take_line-returns-in_default-clause-shares g t c =
+    on_ok_weaker c.local_line.result (λ shares. λ x context agreed few. shares-any (IsIn c.args.files.now c.args.entry) (shares few)) c.local_line.ensures.shares
+
+pub take_line-returns-in_default-clause-put : goal.take_line-returns-in_default-clause-put
+take_line-returns-in_default-clause-put g t c =
+    let line = seen_line c.args.space.now.standard c.args.names.now c.args.files.now c.args.tokens.now in
+    let other : line.directive ≡ Some kind.Include → ⊥ = λ is.
+    let e : c.args.line.now.directive ≡ Some kind.Include =
+    c.requires.directive ∙ (sym (directive-files c.args.space.now.standard c.args.names.now c.args.files.now c.args.tokens.now) ∙ is) in
+    elim c.in_default.branch [
+      | take_line-in_default-via-in-Some+in_default w ↦ first_of (cc, search rules)
+      | take_line-in_default-via-in_default w ↦ first_of (cc, search rules)
+    ] in
+    on_ok_weaker c.local_line.result (λ text. λ x context agreed few apart.
+    text-put (IsIn c.args.files.now c.args.entry) line other (text few apart)) c.local_line.ensures.text
+
+pub walk_lines-returns-clause-shares : goal.walk_lines-returns-clause-shares
+walk_lines-returns-clause-shares g t c =
+    let inv = c.loop-number.invariant in
+    let lines = c.args.file.now in
+    let standard = c.args.space.now.standard in
+    let past : length lines.lines.items ≤ c.loop-number.number = omega (arith, c.loop-number-test.false, c.len.ensures) in
+    on_ok_both c.close_runs.result (λ closed shares. λ x context agreed few.
+    let before = agrees-back c.close_runs.ensures.names (Extends-refl c.loop-number.files) inv.ready.read x.files (contents-stay c.loop-number.contents) agreed in
+    let fewer = subst (λ arities. HasConfigs arities (c.args.space.now.limits.branches + 1) → ⊥) (sym inv.gone.keeps.arities) few in
+    shares-over c.args.entry x standard lines.tokens.items c.loop-number.number inv.gone.keeps inv.gone.files_grow (inv.gone.leads x context before)
+    (lines-all standard c.args.names.now c.args.files.now lines.tokens.items lines.lines.items c.requires.lines.lines_are c.loop-number.number past) lines.lines.items
+    (lines-stand standard c.args.names.now lines.tokens.items lines.lines.items c.requires.lines.lines_are c.requires.lines.branches c.args.files.now)
+    (leads-one (λ m. Unit {0}) closed.simulates) (shares fewer) (inv.shares x context before few)) c.close_runs.ensures.closes c.close_runs.ensures.shares
+
+pub walk_lines-returns-clause-put : goal.walk_lines-returns-clause-put
+walk_lines-returns-clause-put g t c =
+    let inv = c.loop-number.invariant in
+    let lines = c.args.file.now in
+    let standard = c.args.space.now.standard in
+    let past : length lines.lines.items ≤ c.loop-number.number = omega (arith, c.loop-number-test.false, c.len.ensures) in
+    on_ok_both c.close_runs.result (λ closed shares. λ x context agreed few apart.
+    let before = agrees-back c.close_runs.ensures.names (Extends-refl c.loop-number.files) inv.ready.read x.files (contents-stay c.loop-number.contents) agreed in
+    let fewer = subst (λ arities. HasConfigs arities (c.args.space.now.limits.branches + 1) → ⊥) (sym inv.gone.keeps.arities) few in
+    puts-over c.args.entry x standard lines.tokens.items c.loop-number.number inv.gone.keeps inv.gone.files_grow (inv.gone.leads x context before)
+    (lines-all standard c.args.names.now c.args.files.now lines.tokens.items lines.lines.items c.requires.lines.lines_are c.loop-number.number past) lines.lines.items
+    (lines-stand standard c.args.names.now lines.tokens.items lines.lines.items c.requires.lines.lines_are c.requires.lines.branches c.args.files.now)
+    (leads-one (λ m. Unit {0}) closed.simulates) (shares fewer) (inv.shares x context before few) apart) c.close_runs.ensures.closes c.close_runs.ensures.shares

@@ -8,6 +8,7 @@ use Rattle.sc_prep.proofs.LineSteps.{directive-long}
 use Rattle.sc_prep.proofs.Stages.{no-memory, ok-three, stage-stops}
 use Rattle.sc_prep.proofs.TakeLine.{barrier-unconditional, stays-plain, takes-carried, takes-closed, unsaid}
 use Rattle.sc_prep.proofs.Terms.{AllPass, ComesAt, IsPlaced, MomentsHave, StopsBy, any_machine, any_token, is_plain, seen_line, tokens_read}
+use Rattle.sc_prep.proofs.CalmShares.{directive-shares, number-shares}
 use Rattle.sc_prep.proofs.walk.Walk.barrier_line.Goals as goal
 
 pub number_line-requires-clause-placed : goal.number_line-requires-clause-placed
@@ -94,3 +95,15 @@ returns-in_err-close_runs-clause-stops g c = λ x.
     let at_place = stops.at_place (apart-left (tokens_read c.args.self.now.runs.read) line apart) in
     closing-stops c.args.limit c.from_residual.result c.args.standard c.args.names.now c.args.files.now (g.C.Conditions.sets c.args.conds.now) c.args.self.now any_machine x line c.args.directive c.requires.directive c.requires.barrier.0
     (search (rules, at_place)))
+
+pub returns-in-Line-clause-shares : goal.returns-in-Line-clause-shares
+returns-in-Line-clause-shares g c = on_ok_weaker c.number_line.result (λ carries few.
+    let first = c.in_ok-close_runs.ensures in
+    number-shares c.args.standard c.args.files.now first.keeps first.closes (first.shares few) c.args.line.now c.number_line.ensures.keeps c.number_line.ensures.names (carries c.args.standard)) c.number_line.ensures.carries
+
+pub returns-in_default-clause-shares : goal.returns-in_default-clause-shares
+returns-in_default-clause-shares g c =
+    let p = c.plain_directive.ensures in
+    ok-three c.plain_directive.result (λ moved runs list few.
+    let first = c.in_ok-close_runs.ensures in
+    directive-shares c.args.standard c.args.files.now first.keeps first.closes (first.shares few) c.args.line.now c.args.directive p.keeps moved runs list) p.moved p.runs p.list

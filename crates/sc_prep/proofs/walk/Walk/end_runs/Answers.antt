@@ -3,6 +3,7 @@ use Rattle.sc_base.specs.declared.fault.Fault.{Fault}
 use Rattle.sc_prep.proofs.EndMoves.{ends-runs, taken-held, taken-list, taken-own}
 use Rattle.sc_prep.proofs.Facts.{All-append, Keeps-trans}
 use Rattle.sc_prep.proofs.PragmaMoves.{owns-pragmas}
+use Rattle.sc_prep.proofs.SharesEnded.{ended-shares}
 use Rattle.sc_prep.proofs.Terms.{IsCond, RefusesEach, Walk}
 use Rattle.sc_prep.specs.Pragmas.{OwnsPragmas}
 use Rattle.sc_prep.proofs.walk.Walk.end_runs.Goals as goal
@@ -15,6 +16,9 @@ returns-clause-ends g c =
     (sets c.refuse_each.new.conds) c.refuse_each.new.self) c.deref.ensures.value c.in_ok-refuse_each.ensures.refuses in
     ends-runs c.in_ok-ended.ensures.keeps c.in_ok-finish.ensures.keeps c.in_ok-refuse_each.ensures.keeps c.requires.owns.acting c.requires.owns.prepared.live c.in_ok-ended.ensures.takes
     c.in_ok-finish.ensures.ends refuses
+
+pub returns-clause-shares : goal.returns-clause-shares
+returns-clause-shares g c = λ files stored settled. ended-shares files c.args.names.now c.args.self.now c.refuse_each.new.self stored settled (returns-clause-ends g c)
 
 pub finish-requires : goal.finish-requires
 finish-requires g c =

@@ -2,7 +2,10 @@ use Rattle.std.proofs.Common.{refl, ◌≡◌, ◌∙◌, sym, ap, subst, length
 use Rattle.sc_prep.proofs.ApartLemmas.{gathers-line, gathers-same}
 use Rattle.sc_prep.proofs.Facts.{take-length}
 use Rattle.sc_prep.proofs.Held.{read-held}
+use Rattle.sc_prep.proofs.SharesText.{put-shares, text-shares}
+use Rattle.sc_prep.proofs.CalmShares.{never-text, stays-shared}
 use Rattle.sc_prep.proofs.Terms.{GathersFrom, IsHeldWalk, SimulatesStep, Walk, acting, seen_line, with_text}
+use Rattle.sc_prep.specs.Thin.{KeepsShares, TextShares}
 use Rattle.sc_prep.proofs.Texts.{read-more}
 use Rattle.sc_prep.proofs.WalkMoves.{puts, puts-none, read-walk}
 use Rattle.sc_prep.proofs.walk.Walk.put.Goals as goal
@@ -39,3 +42,28 @@ returns-clause-gathers g c =
     let whole : c.loop-token.token-index ≡ length line = omega arith in
     let is = c.loop-token.invariant ∙ ap (read-walk w c.empty-hide.result) (ap (λ n. take n line) whole ∙ take-length line) in
     subst (GathersFrom line w) (sym is) (gathers-line line w (read-walk w c.empty-hide.result line) (read-more w.runs.read w.acting line))
+
+pub returns-clause-shares : goal.returns-clause-shares
+returns-clause-shares g c = λ names files.
+    let s = g.C.Conditions.sets c.args.conds.now in
+    let w = c.args.self.now in
+    let line = c.args.line.now in
+    let whole : c.loop-token.token-index ≡ length line = omega arith in
+    let is = c.loop-token.invariant ∙ ap (read-walk w c.empty-hide.result) (ap (λ n. take n line) whole ∙ take-length line) in
+    subst (λ (next : Walk). KeepsShares files names s w files names s next) (sym is) (put-shares s names files w c.empty-hide.result line)
+
+pub returns-clause-text : goal.returns-clause-text
+returns-clause-text g c = λ standard names files apart.
+    let s = g.C.Conditions.sets c.args.conds.now in
+    let w = c.args.self.now in
+    let line = c.args.line.now in
+    let whole : c.loop-token.token-index ≡ length line = omega arith in
+    let is = c.loop-token.invariant ∙ ap (read-walk w c.empty-hide.result) (ap (λ n. take n line) whole ∙ take-length line) in
+    subst (λ (next : Walk). TextShares files names s w (seen_line standard names files line) names s next) (sym is) (text-shares standard s names files w c.empty-hide.result c.empty-hide.ensures.none line apart)
+
+pub returns-then-is_never-clause-shares : goal.returns-then-is_never-clause-shares
+returns-then-is_never-clause-shares g c = λ names files. stays-shared files names (g.C.Conditions.sets c.args.conds.now) c.args.self.now
+
+pub returns-then-is_never-clause-text : goal.returns-then-is_never-clause-text
+returns-then-is_never-clause-text g c = λ standard names files apart.
+    never-text files names (g.C.Conditions.sets c.args.conds.now) c.args.self.now c.args.self.now (seen_line standard names files c.args.line.now) (c.is_never.ensures.0 c.if-is_never.true)

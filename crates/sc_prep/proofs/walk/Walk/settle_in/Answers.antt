@@ -7,6 +7,7 @@ use Rattle.sc_expand.specs.Settling.{IsSettled}
 use Rattle.sc_prep.proofs.Facts.{Keeps-trans}
 use Rattle.sc_prep.proofs.PragmaMoves.{owns-pragmas}
 use Rattle.sc_prep.proofs.SettleMoves.{all-settled, has-settled, settled-stage, stays-stage}
+use Rattle.sc_prep.proofs.SharesSettled.{shares-settled}
 use Rattle.sc_prep.proofs.Terms.{StopsBy, macros_at, seen_hidden}
 use Rattle.sc_prep.proofs.walk.Walk.settle_in.Goals as goal
 
@@ -51,6 +52,16 @@ returns-in_ok-keep_settled-in-Ok-clause-ends g c = λ _.
       has-settled c.args.files.now x.keeps later.keeps x.names w c.keep_settled.new.self x.sets c.args.live c.args.asked c.in-Ok.settled c.requires.stored c.requires.asked settles x.held later.puts,
       all-settled c.args.files.now x.keeps later.keeps x.names w c.keep_settled.new.self x.sets c.args.live c.args.asked c.in-Ok.settled c.requires.stored c.requires.asked settles x.held later.puts,
     )
+
+pub returns-in_ok-keep_settled-in-Ok-clause-shares : goal.returns-in_ok-keep_settled-in-Ok-clause-shares
+returns-in_ok-keep_settled-in-Ok-clause-shares g c = λ _.
+    let w = c.args.self.now in
+    let old = g.C.Conditions.sets c.args.conds.now in
+    let x = c.in-Ok.ensures in
+    let settles = subst (λ list. IsSettled (stores old c.args.names.now w.runs.sets) (stores (g.C.Conditions.sets c.settle.new.conds) c.settle.new.names c.settle.new.sets) c.args.files.now (macros_at old c.args.names.now w.table) list c.args.asked.0 c.in-Ok.settled)
+    c.in_ok-list.ensures x.settles in
+    let later = c.in_ok-keep_settled-in-Ok.ensures in
+    shares-settled c.args.files.now x.keeps later.keeps x.names w c.keep_settled.new.self x.sets c.args.live c.args.asked c.in-Ok.settled c.requires.stored c.requires.asked settles x.held later.puts
 
 pub returns-in-Err-BranchesFull-clause-stays : goal.returns-in-Err-BranchesFull-clause-stays
 returns-in-Err-BranchesFull-clause-stays g c =

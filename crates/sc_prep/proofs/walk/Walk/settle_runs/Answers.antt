@@ -3,6 +3,7 @@ use Rattle.sc_expand.specs.Moved.{moved}
 use Rattle.sc_expand.specs.Stops.{HasConfigs}
 use Rattle.sc_prep.proofs.Facts.{Extends-refl, Extends-trans, IsConfig-kept, Keeps-trans, items_at-Keeps}
 use Rattle.sc_prep.proofs.SettleMoves.{settled-closes, settled-stops, stage-stored, stays-stage, stored-kept}
+use Rattle.sc_prep.proofs.SharesLater.{shares-later, shares-same}
 use Rattle.sc_prep.proofs.Terms.{NameHas, StopsStage, acts, seen_hidden, seen_place, tokens_read}
 use Rattle.sc_prep.proofs.walk.Walk.settle_runs.Goals as goal
 
@@ -68,6 +69,9 @@ returns-then-settled-clause-stays g c =
 pub returns-then-settled-clause-ends : goal.returns-then-settled-clause-ends
 returns-then-settled-clause-ends g c = c.in_ok-settled.ensures.ends (ap Ok c.if-settled.true)
 
+pub returns-then-within-clause-keeps : goal.returns-then-within-clause-keeps
+returns-then-within-clause-keeps g c = Keeps-trans c.in_ok-met.ensures.keeps c.in_ok-within.ensures.keeps
+
 pub returns-in_err-judge_runs-clause-keeps : goal.returns-in_err-judge_runs-clause-keeps
 returns-in_err-judge_runs-clause-keeps g c = Keeps-trans c.in_ok-met.ensures.keeps (Keeps-trans c.in_ok-within.ensures.keeps c.in_err-judge_runs.ensures.keeps)
 
@@ -97,3 +101,14 @@ returns-then-within-clause-early g c = λ few config listed acting some. c.in_ok
 
 pub returns-then-settled-clause-early : goal.returns-then-settled-clause-early
 returns-then-settled-clause-early g c = λ few config listed acting some. absurd (few (subst (λ arities. HasConfigs arities (c.args.limit + 1)) c.in_ok-met.ensures.keeps.arities (c.in_ok-within.ensures.full (ap Ok c.if-within.false))))
+
+pub returns-then-not-met-clause-shares : goal.returns-then-not-met-clause-shares
+returns-then-not-met-clause-shares g c = λ few. shares-same c.in_ok-met.ensures.keeps c.args.self.now c.requires.stored
+
+pub returns-then-within-clause-shares : goal.returns-then-within-clause-shares
+returns-then-within-clause-shares g c = λ few.
+    let keeps = c.in_ok-met.ensures.keeps in
+    shares-later keeps c.args.self.now c.requires.stored (c.in_ok-within.ensures.shares (λ many. few (subst (λ arities. HasConfigs arities (c.args.limit + 1)) keeps.arities many)))
+
+pub returns-then-settled-clause-shares : goal.returns-then-settled-clause-shares
+returns-then-settled-clause-shares g c = λ few. absurd (few (subst (λ arities. HasConfigs arities (c.args.limit + 1)) c.in_ok-met.ensures.keeps.arities (c.in_ok-within.ensures.full (ap Ok c.if-within.false))))

@@ -3,6 +3,7 @@ use Rattle.sc_base.specs.declared.fault.Fault.{Fault}
 use Rattle.sc_expand.specs.Stops.{HasConfigs}
 use Rattle.sc_prep.proofs.Facts.{Denotes-Keeps, Denotes-self, Extends-refl, Extends-trans, IsConfig-kept, Keeps-trans, and_parts}
 use Rattle.sc_prep.proofs.SettleMoves.{settled-closes, stage-stored, stays-stage, stored-kept, unheld-now, with-sets}
+use Rattle.sc_prep.proofs.SharesLater.{shares-later}
 use Rattle.sc_prep.proofs.Terms.{Denotes, IsCond, Walk, has_none}
 use Rattle.sc_prep.proofs.walk.Walk.settle_within.Goals as goal
 
@@ -68,6 +69,11 @@ returns-then-all-clause-ends g c = λ _. (c.in_ok-all.ensures.ends (ap Ok c.if-a
 pub returns-then-all-clause-early : goal.returns-then-all-clause-early
 returns-then-all-clause-early g c = λ _. (c.in_ok-all.ensures.ends (ap Ok c.if-all.true)).1 refl
 
+pub returns-then-all-clause-shares : goal.returns-then-all-clause-shares
+returns-then-all-clause-shares g c = λ few.
+    let keeps = Keeps-trans c.in_ok-live.ensures.keeps c.in_ok-acting.ensures.keeps in
+    shares-later keeps c.args.self.now c.requires.stored (c.in_ok-all.ensures.shares (ap Ok c.if-all.true) refl)
+
 pub returns-clause-stays : goal.returns-clause-stays
 returns-clause-stays g c =
     let w = c.args.self.now in
@@ -83,6 +89,9 @@ returns-clause-full g c = λ _. subst (λ arities. HasConfigs arities (c.args.li
 
 pub returns-clause-early : goal.returns-clause-early
 returns-clause-early g c = λ few. absurd (few (subst (λ arities. HasConfigs arities (c.args.limit + 1)) (Keeps-trans c.in_ok-live.ensures.keeps c.in_ok-acting.ensures.keeps).arities (c.in_ok-all.ensures.full (ap Ok c.if-all.false)).1))
+
+pub returns-clause-shares : goal.returns-clause-shares
+returns-clause-shares g c = λ few. absurd (few (subst (λ arities. HasConfigs arities (c.args.limit + 1)) (Keeps-trans c.in_ok-live.ensures.keeps c.in_ok-acting.ensures.keeps).arities (c.in_ok-all.ensures.full (ap Ok c.if-all.false)).1))
 
 pub returns-then-all-clause-keeps : goal.returns-then-all-clause-keeps
 returns-then-all-clause-keeps g c = Keeps-trans c.in_ok-live.ensures.keeps (Keeps-trans c.in_ok-acting.ensures.keeps c.in_ok-all.ensures.keeps)
