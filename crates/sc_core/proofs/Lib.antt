@@ -6,6 +6,7 @@ pub mod LaidParts
 pub mod Listing
 pub mod MadeItems
 pub mod MadeSpaces
+pub mod OneItems
 pub mod ParsedFiles
 pub mod PlainTelling
 pub mod Plains

@@ -1,5 +1,5 @@
 -- What the parsing of a preprocessed file comes to.
-use Rattle.std.proofs.Common.{◌≡◌, ◌∙◌, ◌++◌, ℕ, suc, ◌<◌, ◌≤◌, Bool, true, false, List, [], ◌∷◌, All, length, map, get_or, slice_get, Option, Some, None, Result, Ok, Err, append-nil, arith, inl, inr, ◌⊎◌, refl, sym, ap, subst}
+use Rattle.std.proofs.Common.{◌≡◌, ◌∙◌, ◌+◌, ◌++◌, ℕ, suc, ◌<◌, ◌≤◌, Bool, true, false, List, [], ◌∷◌, All, length, map, get_or, slice_get, Option, Some, None, Result, Ok, Err, append-nil, arith, inl, inr, ◌⊎◌, refl, sym, ap, subst}
 use Rattle.std.proofs.lemmas.Bool.{and_parts, false≢true}
 use Rattle.std.proofs.lemmas.List.{length-map}
 use Rattle.std.proofs.lemmas.List.Elements.{All-append, All-contains, All-weaker}
@@ -7,6 +7,7 @@ use Rattle.std.proofs.lemmas.Option.{slice_get_within, slice_get-get_or}
 use Rattle.std.proofs.lemmas.Simd.{map-map}
 use Rattle.std.specs.Prelude.{◌&&◌, if◌then◌else◌}
 use Rattle.std.specs.Result.{is_ok}
+use Rattle.c11_directives.specs.PutOut.{FilesPutOut}
 use Rattle.c11_directives.specs.Pre.{Pre}
 use Rattle.c11_directives.specs.Listed.{IsListed}
 use Rattle.c11_parsing.specs.Classes.{Input, project}
@@ -24,8 +25,10 @@ use Rattle.sc_base.specs.declared.token.Token.{Token}
 use Rattle.sc_base.specs.Seen.{seen, seen_place}
 use Rattle.sc_core.proofs.Filling.{class-configs, config-is, is-config, is_config}
 use Rattle.sc_core.proofs.Translating.{held-main}
+use Rattle.sc_core.proofs.OneItems.{more-configs, nth-item}
 use Rattle.sc_core.specs.Ordinary.{HasManyBranches, IsFileInput, IsPreparedAt, Setting, Translates, not_prepared, parsed}
 use Rattle.sc_core.specs.Texts.{HasAnswers, IsTranslated, Stands, StopsIn, setting_of}
+use Rattle.sc_expand.specs.Stops.{HasConfigs}
 use Rattle.sc_fork.specs.Choices.{AddsLeaves}
 use Rattle.sc_fork.specs.Owns.{HasC11Tables, IsPlaceOf}
 use Rattle.sc_fork.specs.Parsers.{c11_parser, IsC11Parser}
@@ -48,6 +51,7 @@ use Rattle.sc_fork.specs.declared.event.Event.{Event}
 use Rattle.sc_prep.specs.Closes.{has_none, is_empty}
 use Rattle.sc_prep.specs.Contents.{end_of_file}
 use Rattle.sc_prep.specs.declared.prepared.Prepared.{Prepared}
+use Rattle.sc_prep.specs.OneElement.{IsThin}
 use Rattle.sc_prep.specs.Preprocesses as prep
 use Rattle.sc_prep.specs.Preprocesses.{IsOrdinary, OwnsList, is_accepted}
 use Rattle.sc_prep.specs.Printable.{CanBeShown}
@@ -144,7 +148,8 @@ module _ (s : Sets) (names files : List (List ℕ)) (p : Prepared) (tables : cod
   module _ (space : Space) (main : List ℕ) (outside : Files) (arities : s.arities ≡ arities_of space)
       (ordinary : (config : List ℕ) → IsListed space config → IsOrdinary s names files p (Pre space outside main config) config)
       (listed_of : (config : List ℕ) → IsConfig s.arities config → s.has p.live.0 config ≡ true → IsListed space config)
-      (ends : (bytes : List ℕ) → outside main ≡ Some bytes → (config : List ℕ) → IsConfig s.arities config → s.has p.live.0 config ≡ true → seen_place files p.end ≡ end_of_file main bytes) where
+      (ends : (bytes : List ℕ) → outside main ≡ Some bytes → (config : List ℕ) → IsConfig s.arities config → s.has p.live.0 config ≡ true → seen_place files p.end ≡ end_of_file main bytes)
+      (thin : (HasConfigs s.arities (space.branches + 1) → ⊥) → IsThin s p.list p.live.0 (FilesPutOut space outside main)) where
     abbrev setting : Setting
     setting = setting_of space main (c11-parser standard are) outside
 
@@ -174,12 +179,23 @@ module _ (s : Sets) (names files : List (List ℕ)) (p : Prepared) (tables : cod
         let parts = and_parts (is_config s.arities c) (s.has p.live.0 c) live in
         listed_of c (is-config s.arities c parts.0) parts.1
 
+    live-formed-here : (c : List ℕ) → listed_input.live c ≡ true → IsConfig s.arities c × (s.has p.live.0 c ≡ true)
+    live-formed-here c live = let parts = and_parts (is_config s.arities c) (s.has p.live.0 c) live in (is-config s.arities c parts.0, parts.1)
+
     pub file-input : IsFileInput setting listed_input
     file-input = record {
       parser = refl;
       arities = arities;
       each = prepared-at;
       listed = live-listed;
+      thin = λ few c d live live_d f index n m one two.
+          let here = live-formed-here c live in
+          let there = live-formed-here d live_d in
+          let have = (thin (λ many. few (more-configs arities many))).one c d here.0 there.0 here.1 there.1 f index n m one two in (
+            have.0,
+            nth-item s (seen names files) c p.list n have.0 have.1,
+            nth-item s (seen names files) d p.list m have.0 have.2,
+          );
     }
 
   -- why there is no tree of a file that was preprocessed

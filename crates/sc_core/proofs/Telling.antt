@@ -1,5 +1,5 @@
 -- That a text tells what ordinary preprocessing gives.
-use Rattle.std.proofs.Common.{◌≡◌, ◌⊎◌, inl, inr, ℕ, ◌==◌, not, Bool, true, false, List, [], ◌∷◌, map, length, Result, Ok, Err, arith, refl, sym, ap, ◌∙◌, subst}
+use Rattle.std.proofs.Common.{◌≡◌, ◌⊎◌, inl, inr, ℕ, ◌+◌, Some, slice_get, ◌==◌, not, Bool, true, false, List, [], ◌∷◌, map, length, Result, Ok, Err, arith, refl, sym, ap, ◌∙◌, subst}
 use Rattle.std.proofs.lemmas.Bool.{and_parts}
 use Rattle.std.proofs.lemmas.Bool.Decides.{nat_tests}
 use Rattle.std.proofs.lemmas.Simd.{map-map}
@@ -10,7 +10,15 @@ use Rattle.sc_args.specs.Words.{is_file_name}
 use Rattle.sc_base.specs.declared.fault.Fault as base
 use Rattle.sc_core.specs.declared.output.Output.{Output}
 use Rattle.c11_parsing.specs.Parser.{Parser}
+use Rattle.sc_core.proofs.OneItems.{alike-one, more-configs, nth-item}
+use Rattle.sc_core.specs.OneItem.{indexes_from}
 use Rattle.sc_core.specs.Ordinary.{Preprocesses, Setting}
+use Rattle.sc_expand.specs.Stops.{HasConfigs}
+use Rattle.sc_expand.specs.Thin.{IsNth}
+use Rattle.sc_prep.proofs.NthItems.{nth-kept}
+use Rattle.sc_prep.specs.Closes.{has_none, is_empty}
+use Rattle.sc_prep.specs.OneElement.{IsThin}
+use Rattle.c11_directives.specs.PutOut.{FilesPutOut}
 use Rattle.sc_core.specs.CommandTexts.{AcceptsAll, IsRightAt, IsTokensText, Tells, shown_answer}
 use Rattle.sc_prep.specs.Preprocesses.{Stands, IsOrdinary, OwnsList}
 use Rattle.sc_core.specs.Texts.{lines_of, setting_of}
@@ -33,7 +41,7 @@ use Rattle.sc_model.specs.Space.{Space, arities_of}
 use Rattle.sc_model.specs.Bytes.{has_no_newline}
 use Rattle.sc_model.specs.Token.{Token, shown}
 use Rattle.sc_show.proofs.ShownItems.{project-shown_items}
-use Rattle.sc_show.specs.Shows.{Shows}
+use Rattle.sc_show.specs.Shows.{Shows, shown_items}
 
 -- ---- what a text shows of the lists
 
@@ -61,7 +69,9 @@ module _ {s new : Sets} (keeps : Keeps s new) (names files : List (List ℕ)) (s
     (lists : HasListed space) (ordinary : (config : List ℕ) → IsListed space config → IsOrdinary s names files p (Pre space outside main config) config)
     (others : (config : List ℕ) → IsConfig s.arities config → IsListed space config ⊎ (faults_at s p.faults.items config ≡ []))
     (none : text.is_refused ≡ false → All (λ (f : base.Fault). IsNever s f.cond.0) p.faults.items)
-    (some : text.is_refused ≡ true → All (λ (f : base.Fault). IsNever s f.cond.0) p.faults.items → ⊥) where
+    (some : text.is_refused ≡ true → All (λ (f : base.Fault). IsNever s f.cond.0) p.faults.items → ⊥)
+    (live : (config : List ℕ) → IsListed space config → s.has p.live.0 config ≡ has_none s p.faults.items config)
+    (thin : (HasConfigs s.arities (space.branches + 1) → ⊥) → IsThin s p.list p.live.0 (FilesPutOut space outside main)) where
   here : (config : List ℕ) → IsConfig (arities_of space) config → IsConfig s.arities config
   here config formed = subst (λ ns. IsConfig ns config) (sym arities) formed
 
@@ -123,6 +133,12 @@ module _ {s new : Sets} (keeps : Keeps s new) (names files : List (List ℕ)) (s
             unrefused-by o.answer a.0 (map (seen names files) (items_at s p.list config)) (map (seen_fault files) (faults_at s p.faults.items config)) (pre-unique o.preprocessed a.1) o.stands in
             nil_from_length (faults_at s p.faults.items config) (sym (length-map (faults_at s p.faults.items config) (seen_fault files)) ∙ ap length none)
 
+  -- who has no fault in the text is live
+  live-shown : (config : List ℕ) → IsListed space config → project shows.answer.faults config ≡ [] → s.has p.live.0 config ≡ true
+  live-shown config listed none =
+      let nothing : map (seen_fault files) (faults_at s p.faults.items config) ≡ [] = sym (shown-faults config listed.formed) ∙ none in
+      live config listed ∙ ap is_empty (nil_from_length (faults_at s p.faults.items config) (sym (length-map (faults_at s p.faults.items config) (seen_fault files)) ∙ ap length nothing))
+
   pub tells-tokens : (parser : Parser) → IsTokensText (setting_of space main parser outside) (lines_of text) (not text.is_refused)
   tells-tokens parser = record {
     answer = shows.answer;
@@ -134,7 +150,13 @@ module _ {s new : Sets} (keeps : Keeps s new) (names files : List (List ℕ)) (s
       verdict = tells-by text.is_refused (All (λ (f : base.Fault). IsNever s f.cond.0) p.faults.items) (AcceptsAll space (Preprocesses (setting_of space main parser outside))) none some
           (all-accepted parser) (none-refused parser);
     };
+    thin = λ few c d listed listed_d none none_d f index n m one two.
+        let have = (thin (λ many. few (more-configs arities many))).one c d (here c listed.formed) (here d listed_d.formed) (live-shown c listed none) (live-shown d listed_d none_d) f index n m one two in
+        alike-one c d listed.formed listed_d.formed shows.tokens n m (have.0, shown-nth c listed.formed n have.0 have.1, shown-nth d listed_d.formed m have.0 have.2);
   }
+    where
+      shown-nth : (c : List ℕ) → IsConfig (arities_of space) c → (n i : ℕ) → IsNth s p.list c n i → slice_get (indexes_from 0 (shown_items new names files p.list) c) n ≡ Some i
+      shown-nth c formed n i is = nth-item new (λ t. shown (seen names files t)) c p.list n i (nth-kept p.list keeps owns.list (here c formed) n i is)
 
 -- ---- the names of files
 

@@ -2,11 +2,14 @@
 use Rattle.std.specs.Prelude.{◌≡◌, ℕ, Bool, true, false, List, [], length, map, All, Option, Some, None, Result, Ok, Err}
 use Rattle.std.specs.List.{Contains}
 use Rattle.std.specs.Result.{is_ok}
+use Rattle.c11_directives.specs.Footprints.{SourceFootprint}
 use Rattle.c11_directives.specs.Listed.{HasListed, IsListed}
+use Rattle.c11_directives.specs.PutOut.{FilesPutOut}
 use Rattle.c11_parsing.specs.Trees.{Tree}
 use Rattle.sc_core.specs.Cut.{cut_space, first_config, last_config}
 use Rattle.sc_core.specs.Made.{made_files, made_name}
-use Rattle.sc_core.specs.Ordinary.{HasClasses, HasFewClasses, Preprocesses, Setting, Translates}
+use Rattle.sc_core.specs.OneItem.{HaveOneItem}
+use Rattle.sc_core.specs.Ordinary.{HasClasses, HasFewClasses, HasManyConfigs, Preprocesses, Setting, Translates}
 use Rattle.sc_fork.specs.Parsers.{IsC11Parser}
 use Rattle.sc_text.specs.Answer.{Answer, At, HasSoundChoices, IsRooted, ShownTree, project, token_list, tree_parts}
 use Rattle.sc_text.specs.Layout.{IsTextOf}
@@ -54,13 +57,16 @@ shown_answer (Err fault) = Err fault
 
 -- The pieces are the lines of a text that keeps the rules of the format, and it has no fault
 -- exactly where it is told that all configurations are accepted. It says what ordinary
--- preprocessing gives.
+-- preprocessing gives. Where there are no more configurations than branches, what those without a
+-- fault put out of a token that they expand alike is one item.
 pub record IsTokensText (s : Setting) (pieces : List (List ℕ)) (accepted : Bool) : Type 0 where
   pub answer : Answer token_list
   pub text : IsTextOf s.space pieces answer
   pub valid : HasListed s.space
   pub verdict : Tells accepted (answer.faults ≡ [])
   pub right : IsRight s.space (Preprocesses s) (λ config ordinary. At answer config (shown_answer ordinary)) accepted
+  pub thin : (HasManyConfigs s.space → ⊥) → (c d : List ℕ) → IsListed s.space c → IsListed s.space d → project answer.faults c ≡ [] → project answer.faults d ≡ []
+      → (f : SourceFootprint) (index n m : ℕ) → FilesPutOut s.space s.files s.main c f index n → FilesPutOut s.space s.files s.main d f index m → HaveOneItem answer.body c d n m
 
 -- ---- the text of trees
 

@@ -1,6 +1,7 @@
 pub mod CommandTexts
 pub mod Cut
 pub mod Made
+pub mod OneItem
 pub mod Ordinary
 pub mod Outcome
 pub mod RunError

@@ -1,14 +1,16 @@
 -- What ordinary translation of a file gives at one configuration: preprocessing, then parsing.
 use Rattle.std.specs.Prelude.{◌≡◌, ◌⊎◌, ◌<◌, ◌≤◌, ◌+◌, ℕ, true, List, length, All, AllPairs, Some, Result, Ok, Err}
 use Rattle.std.specs.Result.{is_ok}
-use Rattle.c11_directives.specs.Footprints.{Has, HasFootprints}
+use Rattle.c11_directives.specs.Footprints.{Has, HasFootprints, SourceFootprint}
 use Rattle.c11_directives.specs.Listed.{IsListed}
 use Rattle.c11_directives.specs.Pre.{Pre}
+use Rattle.c11_directives.specs.PutOut.{FilesPutOut}
 use Rattle.c11_parsing.specs.Classes.{Input, HasMoreClasses, project}
 use Rattle.c11_parsing.specs.LR.{LR}
 use Rattle.c11_parsing.specs.Parser.{Parser}
 use Rattle.c11_parsing.specs.Trees.{Tree}
 use Rattle.c11_tokens.specs.Lex.{end_position}
+use Rattle.sc_core.specs.OneItem.{HaveOneItem}
 use Rattle.sc_fork.specs.Parsers.{IsC11Parser}
 use Rattle.sc_model.specs.Fault.{Fault}
 use Rattle.sc_model.specs.Outside.{Files}
@@ -65,12 +67,16 @@ pub record IsPreparedAt (s : Setting) (input : Input) (config : List ℕ) : Type
   pub tokens : (ts : List Token) → answer ≡ Ok ts → project config input.items ≡ ts
   pub ends : (ts : List Token) (bytes : List ℕ) → answer ≡ Ok ts → s.files s.main ≡ Some bytes → input.end ≡ main_end s bytes
 
--- the main file as it is parsed under all listed configurations, and under no other
+-- The main file as it is parsed under all listed configurations, and under no other. Where there
+-- are no more configurations than branches, what they put out of a token that they expand alike is
+-- one item.
 pub record IsFileInput (s : Setting) (input : Input) : Type 0 where
   pub parser : input.parser ≡ s.parser
   pub arities : input.arities ≡ arities_of s.space
   pub each : (config : List ℕ) → IsListed s.space config → IsPreparedAt s input config
   pub listed : (config : List ℕ) → input.live config ≡ true → IsListed s.space config
+  pub thin : (HasManyConfigs s.space → ⊥) → (c d : List ℕ) → input.live c ≡ true → input.live d ≡ true → (f : SourceFootprint) (index n m : ℕ)
+      → FilesPutOut s.space s.files s.main c f index n → FilesPutOut s.space s.files s.main d f index m → HaveOneItem input.items c d n m
 
 -- at some place of the file, as C11 is parsed, there are more classes than branches
 pub record HasManyClasses (s : Setting) : Type 0 where

@@ -1,13 +1,14 @@
-use Rattle.std.proofs.Common.{◌≡◌, ◌∙◌, true, sym, subst, List}
+use Rattle.std.proofs.Common.{◌≡◌, ◌∙◌, ◌+◌, true, sym, subst, List}
 use Rattle.std.proofs.lemmas.List.Elements.{All-nil}
 use Rattle.std.specs.Prelude.{All}
 use Rattle.sc_base.specs.declared.fault.Fault as base
 use Rattle.std.proofs.lemmas.Result.{err_from_is_err_and}
 use Rattle.sc_core.proofs.Filling.{stops-before}
 use Rattle.sc_core.specs.Ordinary.{HasManyFootprints}
-use Rattle.sc_core.proofs.Listing.{files-stop, has-listed, listed-or-out, some-listed}
+use Rattle.sc_core.proofs.Listing.{files-stop, has-listed, listed-or-out, prepared-live, some-listed}
 use Rattle.sc_core.proofs.Telling.{tells-tokens}
 use Rattle.sc_core.proofs.texts.text_under.Goals as goal
+use Rattle.sc_expand.specs.Stops.{HasConfigs}
 use Rattle.sc_guarded.specs.Printable.{AreApart, IsShowableFault}
 use Rattle.sc_model.specs.Bytes.{has_no_newline}
 use Rattle.sc_model.specs.Sets.{IsConfig, IsNever}
@@ -39,7 +40,9 @@ returns-clause-tokens g c =
           (λ config listed. from.ordinary config (subst (λ ns. IsConfig ns config) (sym c.requires.arities) listed.formed) (has-listed c.requires.listed c.requires.arities config listed))
           (listed-or-out c.requires.listed c.requires.arities c.in_ok-prepared.ensures.keeps from.others)
           (λ e. subst (All (λ (f : base.Fault). IsNever s f.cond.0)) c.deref.ensures.value (c.has_fault-is_refused.ensures.none e))
-          (λ e all. c.has_fault-is_refused.ensures.some e (subst (All (λ (f : base.Fault). IsNever s f.cond.0)) (sym c.deref.ensures.value) all));
+          (λ e all. c.has_fault-is_refused.ensures.some e (subst (All (λ (f : base.Fault). IsNever s f.cond.0)) (sym c.deref.ensures.value) all))
+          (prepared-live c.requires.listed c.requires.arities c.in_ok-prepared.ensures.keeps from c.in_ok-prepared.ensures.live)
+          (λ few. from.thin (subst (λ ns. HasConfigs ns (space.branches + 1) → ⊥) c.in_ok-prepared.ensures.keeps.arities few));
     }
 
 pub show_tokens-requires-clause-files : goal.show_tokens-requires-clause-files

@@ -1,15 +1,16 @@
-use Rattle.std.proofs.Common.{◌≡◌, ◌∙◌, ℕ, true, List, All, Some, inl, refl, sym, subst}
+use Rattle.std.proofs.Common.{◌≡◌, ◌∙◌, ◌+◌, ℕ, true, List, All, Some, inl, refl, sym, subst}
 use Rattle.std.proofs.lemmas.List.Elements.{All-weaker}
 use Rattle.std.proofs.lemmas.Result.{err_from_is_err_and}
 use Rattle.c11_directives.specs.Listed.{IsListed}
 use Rattle.sc_base.specs.declared.id.Cond.{Cond}
 use Rattle.sc_base.specs.declared.token.Token.{Token}
 use Rattle.sc_base.specs.Seen.{IsHeld}
+use Rattle.sc_expand.specs.Stops.{HasConfigs}
 use Rattle.sc_core.proofs.ParsedFiles.{c11-is, c11-parser, file-input, input, is-input, is-listed-input, listed_input, others-after, parsed-answers, parsed-apart, parsed-faults, parsed-leaves, stops-in, translated-at}
 use Rattle.sc_core.proofs.Choices.{no-choices}
 use Rattle.sc_core.proofs.Filling.{stops-before}
 use Rattle.sc_core.proofs.Listing.{files-stop, formed-before, formed-now, has-listed, prepared-listed, prepared-live, prepared-ordinary, prepared-others}
-use Rattle.sc_core.proofs.ToldFiles.{ends-told, ordinary-told}
+use Rattle.sc_core.proofs.ToldFiles.{ends-told, ordinary-told, thin-told}
 use Rattle.sc_core.proofs.tree_texts.parsed.Goals as goal
 use Rattle.sc_core.proofs.tree_texts.parsed.Goals.{After-drop-prepared-2}
 use Rattle.sc_core.specs.Ordinary.{HasManyBranches}
@@ -53,7 +54,8 @@ returns-in_err-parsed-clause-stops g c =
     (λ outside holds. file-input s names files prepared tables c.args.space.now.standard are shown space main outside arities
     (λ config listed. ordinary-told made.ordinary outside holds config (formed-before c.requires.listed c.requires.arities made.keeps made.ordinary made.live config listed) (has-listed c.requires.listed c.requires.arities config listed))
     (prepared-listed c.requires.listed c.requires.arities made.keeps made.ordinary made.live)
-    (λ bytes held config listed live. ends-told made.ordinary outside holds bytes config held (subst (λ ns. IsConfig ns config) made.keeps.arities listed) live))
+    (λ bytes held config listed live. ends-told made.ordinary outside holds bytes config held (subst (λ ns. IsConfig ns config) made.keeps.arities listed) live)
+    (λ few. thin-told made.ordinary outside holds (subst (λ ns. HasConfigs ns (space.branches + 1) → ⊥) made.keeps.arities few)))
     c.in_err-parsed.field-0.0 (c.in_err-parsed.ensures.stops files (listed_input s names files prepared tables c.args.space.now.standard are shown) (is-listed-input s names files prepared tables c.args.space.now.standard are shown c.new-trees.result)))
 
 pub returns-in_err-parsed-clause-keeps : goal.returns-in_err-parsed-clause-keeps
@@ -125,7 +127,8 @@ returns-clause-translated g c =
       classes = record {
         c11 = c11-is c.args.space.now.standard are;
         input = listed_input s names files prepared tables c.args.space.now.standard are shown;
-        is_input = file-input s names files prepared tables c.args.space.now.standard are shown space main made.ordinary.outside arities ordinary listed_of ends;
+        is_input = file-input s names files prepared tables c.args.space.now.standard are shown space main made.ordinary.outside arities ordinary listed_of ends
+            (λ few. made.ordinary.thin (subst (λ ns. HasConfigs ns (space.branches + 1) → ⊥) made.keeps.arities few));
         most_are = (c.in_ok-parsed.ensures.parse files (listed_input s names files prepared tables c.args.space.now.standard are shown) (is-listed-input s names files prepared tables c.args.space.now.standard are shown c.new-trees.result)).classes;
       };
       few = c.in_ok-parsed.ensures.few;
