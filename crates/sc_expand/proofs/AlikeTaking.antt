@@ -7,8 +7,8 @@ use Rattle.sc_expand.proofs.SeenLemmas.{macros_at-Grows}
 use Rattle.sc_expand.proofs.TakingSteps.{none-before}
 use Rattle.sc_expand.proofs.TakingTurns.{FirstTaken, first-both, first-grew}
 use Rattle.sc_expand.proofs.Terms.{AreAlike, AreAlikeRefusals, AreHeld, AreTaken, Cond, Enclosing, Expansion, Extends, Grows, HasPutOut, Hidden, IsAlike, IsAlikeCall, IsAlikeEnclosing, IsAlikeExpansion, IsAlikeFrame, IsAlikeIn, IsAlikeTaken, IsCond, IsConfig, IsFunction, IsFunctionLike, IsHeldDefinition, IsOneToOne, IsPushed, IsSameCall, IsTaken, MacroTable, Others, Rc, Sets, Span, Stores, Taken, TakesName, TakesPart, has_each, is_function_like, is_looked_up, items_at, macros_at, option_map, others_at, seen_definition, seen_hidden, stores, text_of}
-use Rattle.sc_expand.proofs.UnchangedLemmas.{All-before, All-behind}
-use Rattle.sc_expand.specs.Unchanged as unchanged
+use Rattle.sc_expand.proofs.RestrictedLists.{All-before, All-behind}
+use Rattle.sc_expand.specs.Restricted as restricted
 use Rattle.sc_macro.specs.declared.definition.Definition.{Definition}
 
 -- ---- tokens that are put
@@ -23,9 +23,9 @@ module _ (s : Sets) (c d : List ℕ) where
 
   -- one token more, behind so many others
   pub pushed-behind : (n : ℕ) {cond : Cond} {token : Hidden} {before after : List (Cond × Hidden)} → IsPushed s cond token before after → IsAlike s c d cond → AreAlike s c d (drop n before) → AreAlike s c d (drop n after)
-  pushed-behind n {cond} {token} {before} {after} (unchanged.pushed some is) same alike =
+  pushed-behind n {cond} {token} {before} {after} (restricted.pushed some is) same alike =
       subst (λ l. AreAlike s c d (drop n l)) (sym is) (All-drop-push (λ (item : Cond × Hidden). IsAlike s c d item.0) n before (cond, token) alike same)
-  pushed-behind n {cond} {token} {before} {after} (unchanged.absent none is) same alike = subst (λ l. AreAlike s c d (drop n l)) (sym is) alike
+  pushed-behind n {cond} {token} {before} {after} (restricted.absent none is) same alike = subst (λ l. AreAlike s c d (drop n l)) (sym is) alike
 
   -- the first token of a list, where it is not one of so many at the end
   pub alike-first : (n : ℕ) (list : List (Cond × Hidden)) (item : Cond × Hidden) → slice_get list 0 ≡ Some item → n < length list → AreAlike s c d (take (length list - n) list) → IsAlike s c d item.0

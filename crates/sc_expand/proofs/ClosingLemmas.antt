@@ -3,8 +3,8 @@ use Rattle.std.proofs.Common.{◌≡◌, ℕ, zero, suc, ◌+◌, ◌&&◌, ◌|
 use Rattle.sc_expand.proofs.Ending.{bared}
 use Rattle.sc_expand.proofs.Facts.{All-cons, All-head, All-nil, All-push, All-tail, IsConfig-Keeps, IsConfig-kept, faults_at-Keeps, faults_at-append, items_at-append, map-append, map-one}
 use Rattle.sc_expand.proofs.Terms.{AreAlike, Cond, Denotes, Failure, Fault, Hidden, IsAlike, IsCond, IsConfig, IsNever, IsRestricted, Keeps, Place, Sets, Token, UnterminatedCall, empty, failures_at, faults_at, is_several, items_at, seen_failure, unclosed_at}
-use Rattle.sc_expand.proofs.UnchangedLemmas.{both-Keeps, restricted-append, restricted-Keeps}
-use Rattle.sc_expand.specs.Unchanged as unchanged
+use Rattle.sc_expand.proofs.RestrictedLists.{both-Keeps, restricted-append, restricted-Keeps}
+use Rattle.sc_expand.specs.Restricted as restricted
 
 -- the list has an item
 abbrev pub is_any : {A : Type 0} → List A → Bool
@@ -82,9 +82,9 @@ restricted-next {old = old} {new} keeps live live_own xs us after own x x_own co
 
     by : Adds new cond.0 (cond, x.1) us after → IsRestricted new live (xs ++ x ∷ []) after
     by (added some is) = subst (IsRestricted new live (xs ++ x ∷ [])) (sym is)
-        (restricted-append new live xs (x ∷ []) us ((cond, x.1) ∷ []) (restricted-Keeps keeps live live_own xs us own r) (unchanged.kept cond x [] [] (record { own = met.own; at = here }) some empty))
+        (restricted-append new live xs (x ∷ []) us ((cond, x.1) ∷ []) (restricted-Keeps keeps live live_own xs us own r) (restricted.kept cond x [] [] (record { own = met.own; at = here }) some empty))
     by (left_out never is) = subst (IsRestricted new live (xs ++ x ∷ [])) (append-nil us ∙ sym is)
-        (restricted-append new live xs (x ∷ []) us [] (restricted-Keeps keeps live live_own xs us own r) (unchanged.left_out x [] [] (λ c listed. sym (here c listed) ∙ never.none c listed) empty))
+        (restricted-append new live xs (x ∷ []) us [] (restricted-Keeps keeps live live_own xs us own r) (restricted.left_out x [] [] (λ c listed. sym (here c listed) ∙ never.none c listed) empty))
 
 -- ---- the faults
 

@@ -2,8 +2,8 @@
 use Rattle.std.proofs.Common.{◌≡◌, ℕ, List, [], ◌∷◌, ◌++◌, All, append_assoc, append-nil, slice_get, Some, sym, ap, subst, refl, ◌∙◌}
 use Rattle.sc_expand.proofs.BottomLemmas.{bottom-frame}
 use Rattle.sc_expand.proofs.Terms.{Cond, Enclosing, Expansion, Grows, Hidden, IsCond, IsHeldExpansion, IsPushed, IsRestricted, Keeps, KeepsFirst, KeepsGone, Sets, Stores, bottom, bottom_by}
-use Rattle.sc_expand.proofs.UnchangedLemmas.{All-before, restricted-Keeps, restricted-append}
-use Rattle.sc_expand.specs.Unchanged as unchanged
+use Rattle.sc_expand.proofs.RestrictedLists.{All-before, restricted-Keeps, restricted-append}
+use Rattle.sc_expand.specs.Restricted as restricted
 use Rattle.sc_expand.specs.Waiting as waiting
 
 first-same : (list : List (Cond × Hidden)) (item : Cond × Hidden) (rest : List (Cond × Hidden)) (first : Cond × Hidden) → list ≡ item ∷ rest → slice_get list 0 ≡ Some first → first ≡ item
@@ -15,7 +15,7 @@ list-some item rest none = cc
 
 -- nothing is gone
 pub gone-nothing : (s : Sets) (e after : Expansion) → (bottom after).work ≡ (bottom e).work → after.rest ≡ e.rest → KeepsGone s e after
-gone-nothing s e after work rest = record { gone = []; kept = []; work = sym work; rest = rest ∙ sym (append-nil e.rest); is = unchanged.empty }
+gone-nothing s e after work rest = record { gone = []; kept = []; work = sym work; rest = rest ∙ sym (append-nil e.rest); is = restricted.empty }
 
 -- the first token of the list on top is
 pub gone-first : (s : Sets) (e after : Expansion) (item : Cond × Hidden) → e.top.work ≡ item ∷ after.top.work → after.below ≡ e.below
@@ -31,19 +31,19 @@ gone-first s e after item work below (waiting.kept first cond whole is meets put
         ∙ (work ∙ ap (λ (l : List (Cond × Hidden)). item ∷ l) (sym (ap (λ b. (bottom_by b.items after.top).work) below ∙ ap (λ bs. (bottom_by bs after.top).work) whole)))
 
     by : IsPushed s cond first.1 e.rest after.rest → KeepsGone s e after
-    by (unchanged.pushed some put) = record {
+    by (restricted.pushed some put) = record {
       gone = item ∷ [];
       kept = (cond, first.1) ∷ [];
       work = moved;
       rest = put;
-      is = subst (λ (x : Cond × Hidden). IsRestricted s e.refusals.waiting.0 (x ∷ []) ((cond, first.1) ∷ [])) same (unchanged.kept cond first [] [] meets some unchanged.empty);
+      is = subst (λ (x : Cond × Hidden). IsRestricted s e.refusals.waiting.0 (x ∷ []) ((cond, first.1) ∷ [])) same (restricted.kept cond first [] [] meets some restricted.empty);
     }
-    by (unchanged.absent never put) = record {
+    by (restricted.absent never put) = record {
       gone = item ∷ [];
       kept = [];
       work = moved;
       rest = put ∙ sym (append-nil e.rest);
-      is = subst (λ (x : Cond × Hidden). IsRestricted s e.refusals.waiting.0 (x ∷ []) []) same (unchanged.left_out first [] [] (λ c listed. sym (meets.at c listed) ∙ never.none c listed) unchanged.empty);
+      is = subst (λ (x : Cond × Hidden). IsRestricted s e.refusals.waiting.0 (x ∷ []) []) same (restricted.left_out first [] [] (λ c listed. sym (meets.at c listed) ∙ never.none c listed) restricted.empty);
     }
 gone-first s e after item work below (waiting.none empty same) = by e.below.items refl
   where

@@ -58,8 +58,6 @@ pub mod LeavingLemmas
 pub mod PuttingOut
 pub mod WaitingLemmas
 pub mod WaitingTaking
-pub mod UnchangedLemmas
-pub mod UnchangedTaking
 pub mod Behind
 pub mod Phases
 pub mod FootprintLemmas

@@ -12,7 +12,7 @@ use Rattle.sc_expand.proofs.SeenLemmas.{seen_at-Grows, seen_at-append}
 use Rattle.sc_expand.proofs.Terms.{AreAlike, Cond, Expansion, Grows, Hidden, IsAlike, IsCond, IsConfig, IsRestricted, Macros, Sets, Stores, behind_at, indexes_in, items_at, of_item, seen_at, seen_hidden}
 use Rattle.sc_expand.specs.Running as running
 use Rattle.sc_expand.specs.Running.{KeepsLeft, KeepsNext, Rest, bottom, bottom_by, put, took}
-use Rattle.sc_expand.specs.Unchanged as unchanged
+use Rattle.sc_expand.specs.Restricted as restricted
 
 pub none-long : {A : Type 0} (xs : List A) → length xs ≡ 0 → xs ≡ []
 none-long [] none = refl
@@ -122,53 +122,53 @@ first-number s c long n at (x ∷ xs) item first has far =
 module _ {files : List (List ℕ)} {macros : List ℕ → Macros} {old now : Stores} {was e : Expansion} (grows : Grows old now) (r : IsRunning files macros old now was e) (new : Stores) (later : Grows now new) (after : Expansion) (at : ℕ) where
   abbrev pub more-of : {went : Bool} → KeepsNext now.sets new.sets e after went → List (ℕ × (Cond × Hidden))
   more-of (running.nothing_kept empty is) = []
-  more-of (running.first_kept item cond whole none first (unchanged.pushed some is) has) = (at, (cond, item.1)) ∷ []
-  more-of (running.first_kept item cond whole none first (unchanged.absent never is) has) = []
+  more-of (running.first_kept item cond whole none first (restricted.pushed some is) has) = (at, (cond, item.1)) ∷ []
+  more-of (running.first_kept item cond whole none first (restricted.absent never is) has) = []
 
   pub more-is : {went : Bool} (k : KeepsNext now.sets new.sets e after went) → after.rest ≡ e.rest ++ map (λ x. x.1) (more-of k)
   more-is (running.nothing_kept empty is) = is ∙ sym (append-nil e.rest)
-  more-is (running.first_kept item cond whole none first (unchanged.pushed some is) has) = is
-  more-is (running.first_kept item cond whole none first (unchanged.absent never is) has) = is ∙ sym (append-nil e.rest)
+  more-is (running.first_kept item cond whole none first (restricted.pushed some is) has) = is
+  more-is (running.first_kept item cond whole none first (restricted.absent never is) has) = is ∙ sym (append-nil e.rest)
 
   pub more-at : {went : Bool} (k : KeepsNext now.sets new.sets e after went) → All (λ x. x.0 ≡ at) (more-of k)
   more-at (running.nothing_kept empty is) = All-nil (λ (x : ℕ × (Cond × Hidden)). x.0 ≡ at)
-  more-at (running.first_kept item cond whole none first (unchanged.pushed some is) has) =
+  more-at (running.first_kept item cond whole none first (restricted.pushed some is) has) =
       All-cons (λ (x : ℕ × (Cond × Hidden)). x.0 ≡ at) (at, (cond, item.1)) [] refl (All-nil (λ (x : ℕ × (Cond × Hidden)). x.0 ≡ at))
-  more-at (running.first_kept item cond whole none first (unchanged.absent never is) has) = All-nil (λ (x : ℕ × (Cond × Hidden)). x.0 ≡ at)
+  more-at (running.first_kept item cond whole none first (restricted.absent never is) has) = All-nil (λ (x : ℕ × (Cond × Hidden)). x.0 ≡ at)
 
   pub more-once : {went : Bool} (k : KeepsNext now.sets new.sets e after went) → drop 1 (of_item at (more-of k)) ≡ []
   more-once (running.nothing_kept empty is) = refl
-  more-once (running.first_kept item cond whole none first (unchanged.pushed some is) has) = ap (drop 1) (item-one at (cond, item.1))
-  more-once (running.first_kept item cond whole none first (unchanged.absent never is) has) = refl
+  more-once (running.first_kept item cond whole none first (restricted.pushed some is) has) = ap (drop 1) (item-one at (cond, item.1))
+  more-once (running.first_kept item cond whole none first (restricted.absent never is) has) = refl
 
   -- where no configuration waits nothing is kept
   pub more-idle : {went : Bool} (k : KeepsNext now.sets new.sets e after went) → ((c : List ℕ) → IsConfig old.sets.arities c → new.sets.has after.refusals.waiting.0 c ≡ false) → ((c : List ℕ) → IsConfig new.sets.arities c → IsConfig old.sets.arities c) → more-of k ≡ []
   more-idle (running.nothing_kept empty is) idle listed = refl
-  more-idle (running.first_kept item cond whole none first (unchanged.pushed some is) has) idle listed = absurd (some (record {
+  more-idle (running.first_kept item cond whole none first (restricted.pushed some is) has) idle listed = absurd (some (record {
     none = λ c there.
         let here = listed c there in
         has c (IsConfig-Keeps grows.sets here) (running-apart grows r c here) ∙ and-none (now.sets.has item.0.0 c) (new.sets.has after.refusals.waiting.0 c) (idle c here);
   }))
-  more-idle (running.first_kept item cond whole none first (unchanged.absent never is) has) idle listed = refl
+  more-idle (running.first_kept item cond whole none first (restricted.absent never is) has) idle listed = refl
 
   -- who has not the token, or does not wait, keeps nothing
   pub more-lacks : {went : Bool} (k : KeepsNext now.sets new.sets e after went) (c : List ℕ) → IsConfig old.sets.arities c
       → ((item : Cond × Hidden) → e.below.items ≡ [] → e.top.calls.items ≡ [] → slice_get e.top.work 0 ≡ Some item → (now.sets.has item.0.0 c && new.sets.has after.refusals.waiting.0 c) ≡ false) → items_at new.sets (of_item at (more-of k)) c ≡ []
   more-lacks (running.nothing_kept empty is) c listed lacks = refl
-  more-lacks (running.first_kept item cond whole none first (unchanged.pushed some is) has) c listed lacks =
+  more-lacks (running.first_kept item cond whole none first (restricted.pushed some is) has) c listed lacks =
       let not : new.sets.has cond.0 c ≡ false = has c (IsConfig-Keeps grows.sets listed) (running-apart grows r c listed) ∙ lacks item whole none first in
       ap (λ l. items_at new.sets l c) (item-one at (cond, item.1)) ∙ ap (λ (b : Bool). if b then item.1 ∷ [] else []) not
-  more-lacks (running.first_kept item cond whole none first (unchanged.absent never is) has) c listed lacks = refl
+  more-lacks (running.first_kept item cond whole none first (restricted.absent never is) has) c listed lacks = refl
 
   -- who has it and waits keeps it
   pub more-has : {went : Bool} (k : KeepsNext now.sets new.sets e after went) (c : List ℕ) → IsConfig old.sets.arities c → (item : Cond × Hidden) → e.below.items ≡ [] → e.top.calls.items ≡ [] → slice_get e.top.work 0 ≡ Some item
       → now.sets.has item.0.0 c ≡ true → new.sets.has after.refusals.waiting.0 c ≡ true → items_at new.sets (of_item at (more-of k)) c ≡ item.1 ∷ []
   more-has (running.nothing_kept empty is) c listed item whole none first has waits = absurd (empty-first e.top.work item (empty whole none) first)
-  more-has (running.first_kept other cond whole none first (unchanged.pushed some is) has) c listed item whole' none' first' had waits =
+  more-has (running.first_kept other cond whole none first (restricted.pushed some is) has) c listed item whole' none' first' had waits =
       let same : other ≡ item = same-slice e.top.work 0 other item first first' in
       let yes : new.sets.has cond.0 c ≡ true = has c (IsConfig-Keeps grows.sets listed) (running-apart grows r c listed) ∙ (λ i. now.sets.has (same i).0.0 c && waits i) ∙ ap (λ b. b && true) had in
       ap (λ l. items_at new.sets l c) (item-one at (cond, other.1)) ∙ (ap (λ (b : Bool). if b then other.1 ∷ [] else []) yes ∙ ap (λ (x : Cond × Hidden). x.1 ∷ []) same)
-  more-has (running.first_kept other cond whole none first (unchanged.absent never is) has) c listed item whole' none' first' had waits =
+  more-has (running.first_kept other cond whole none first (restricted.absent never is) has) c listed item whole' none' first' had waits =
       let same : other ≡ item = same-slice e.top.work 0 other item first first' in
       let yes : new.sets.has cond.0 c ≡ true = has c (IsConfig-Keeps grows.sets listed) (running-apart grows r c listed) ∙ (λ i. now.sets.has (same i).0.0 c && waits i) ∙ ap (λ b. b && true) had in
       absurd (true≢false (sym yes ∙ never.none c (IsConfig-Keeps later.sets (IsConfig-Keeps grows.sets listed))))
@@ -187,18 +187,18 @@ module _ {files : List (List ℕ)} {macros : List ℕ → Macros} {old now : Sto
       → ((item : Cond × Hidden) → e.below.items ≡ [] → e.top.calls.items ≡ [] → slice_get e.top.work 0 ≡ Some item → now.sets.has item.0.0 c ≡ now.sets.has item.0.0 d)
       → new.sets.has after.refusals.waiting.0 c ≡ new.sets.has after.refusals.waiting.0 d → AreAlike new.sets c d (of_item at (more-of k))
   more-alike (running.nothing_kept empty is) c d p q both waits = All-nil (λ (item : Cond × Hidden). IsAlike new.sets c d item.0)
-  more-alike (running.first_kept item cond whole none first (unchanged.pushed some is) has) c d p q both waits =
+  more-alike (running.first_kept item cond whole none first (restricted.pushed some is) has) c d p q both waits =
       let P : Cond × Hidden → Type 0 = λ x. IsAlike new.sets c d x.0 in
       let same = both item whole none first in
       let alike : new.sets.has cond.0 c ≡ new.sets.has cond.0 d = has c (IsConfig-Keeps grows.sets p) (running-apart grows r c p) ∙ ((λ i. same i && waits i) ∙ sym (has d (IsConfig-Keeps grows.sets q) (running-apart grows r d q))) in
       subst (AreAlike new.sets c d) (sym (item-one at (cond, item.1))) (All-cons P (cond, item.1) [] alike (All-nil P))
-  more-alike (running.first_kept item cond whole none first (unchanged.absent never is) has) c d p q both waits = All-nil (λ (item : Cond × Hidden). IsAlike new.sets c d item.0)
+  more-alike (running.first_kept item cond whole none first (restricted.absent never is) has) c d p q both waits = All-nil (λ (item : Cond × Hidden). IsAlike new.sets c d item.0)
 
   -- both have as much of it
   pub more-same : {went : Bool} (k : KeepsNext now.sets new.sets e after went) (c d : List ℕ) → length (items_at new.sets (of_item at (more-of k)) c) ≡ length (items_at new.sets (of_item at (more-of k)) d) → AreAlike new.sets c d (of_item at (more-of k))
   more-same (running.nothing_kept empty is) c d one = All-nil (λ (item : Cond × Hidden). IsAlike new.sets c d item.0)
-  more-same (running.first_kept item cond whole none first (unchanged.absent never is) has) c d one = All-nil (λ (item : Cond × Hidden). IsAlike new.sets c d item.0)
-  more-same (running.first_kept item cond whole none first (unchanged.pushed some is) has) c d one =
+  more-same (running.first_kept item cond whole none first (restricted.absent never is) has) c d one = All-nil (λ (item : Cond × Hidden). IsAlike new.sets c d item.0)
+  more-same (running.first_kept item cond whole none first (restricted.pushed some is) has) c d one =
       let P : Cond × Hidden → Type 0 = λ x. IsAlike new.sets c d x.0 in
       let single = item-one at (cond, item.1) in
       subst (AreAlike new.sets c d) (sym single) (All-cons P (cond, item.1) [] (by (new.sets.has cond.0 c) (new.sets.has cond.0 d)
@@ -229,8 +229,8 @@ module _ {files : List (List ℕ)} {macros : List ℕ → Macros} {old now : Sto
       where
         by : {b : Bool} (k : KeepsNext now.sets new.sets e after b) → map (number long n at) numbers-were ≡ indexes_in new.sets (more-of k) c ++ map (number long n at) (drop (length (indexes_in new.sets (more-of k) c)) numbers-were)
         by (running.nothing_kept empty is) = refl
-        by (running.first_kept item cond whole none first (unchanged.absent never is) has) = refl
-        by (running.first_kept item cond whole none first (unchanged.pushed some is) has) = on (new.sets.has cond.0 c) refl
+        by (running.first_kept item cond whole none first (restricted.absent never is) has) = refl
+        by (running.first_kept item cond whole none first (restricted.pushed some is) has) = on (new.sets.has cond.0 c) refl
           where
             on : (b : Bool) → new.sets.has cond.0 c ≡ b → map (number long n at) numbers-were ≡ (if b then at ∷ [] else []) ++ map (number long n at) (drop (length (if b then at ∷ [] else [])) numbers-were)
             on false not = refl
@@ -299,26 +299,26 @@ module _ {files : List (List ℕ)} {macros : List ℕ → Macros} {old now : Sto
 
 module _ (s : Sets) (waiting long n at left : ℕ) where
   abbrev pub numbered : {gone kept : List (Cond × Hidden)} → IsRestricted s waiting gone kept → List (ℕ × (Cond × Hidden))
-  numbered unchanged.empty = []
-  numbered (unchanged.kept cond item list rest both some r) = (number long n at (length list + left), (cond, item.1)) ∷ numbered r
-  numbered (unchanged.left_out item list rest none r) = numbered r
+  numbered restricted.empty = []
+  numbered (restricted.kept cond item list rest both some r) = (number long n at (length list + left), (cond, item.1)) ∷ numbered r
+  numbered (restricted.left_out item list rest none r) = numbered r
 
   pub numbered-is : {gone kept : List (Cond × Hidden)} (r : IsRestricted s waiting gone kept) → map (λ x. x.1) (numbered r) ≡ kept
-  numbered-is unchanged.empty = refl
-  numbered-is (unchanged.kept cond item list rest both some r) = ap (λ l. (cond, item.1) ∷ l) (numbered-is r)
-  numbered-is (unchanged.left_out item list rest none r) = numbered-is r
+  numbered-is restricted.empty = refl
+  numbered-is (restricted.kept cond item list rest both some r) = ap (λ l. (cond, item.1) ∷ l) (numbered-is r)
+  numbered-is (restricted.left_out item list rest none r) = numbered-is r
 
   -- where no configuration waits nothing is kept
   pub numbered-idle : {gone kept : List (Cond × Hidden)} (r : IsRestricted s waiting gone kept) → ((c : List ℕ) → IsConfig s.arities c → s.has waiting c ≡ false) → numbered r ≡ []
-  numbered-idle unchanged.empty idle = refl
-  numbered-idle (unchanged.kept cond item list rest both some r) idle = absurd (some (record { none = λ c listed. both.at c listed ∙ and-none (s.has item.0.0 c) (s.has waiting c) (idle c listed) }))
-  numbered-idle (unchanged.left_out item list rest none r) idle = numbered-idle r idle
+  numbered-idle restricted.empty idle = refl
+  numbered-idle (restricted.kept cond item list rest both some r) idle = absurd (some (record { none = λ c listed. both.at c listed ∙ and-none (s.has item.0.0 c) (s.has waiting c) (idle c listed) }))
+  numbered-idle (restricted.left_out item list rest none r) idle = numbered-idle r idle
 
   -- at a configuration that waits what is kept are the indexes of what is gone
   pub numbered-indexes : {gone kept : List (Cond × Hidden)} (r : IsRestricted s waiting gone kept) (rest : List (Cond × Hidden)) → length rest ≡ left → (c : List ℕ) → IsConfig s.arities c → s.has waiting c ≡ true
       → map (number long n at) (behind_at s (gone ++ rest) c) ≡ indexes_in s (numbered r) c ++ map (number long n at) (behind_at s rest c)
-  numbered-indexes unchanged.empty rest is c p waits = refl
-  numbered-indexes (unchanged.kept cond item list later both some r) rest is c p waits =
+  numbered-indexes restricted.empty rest is c p waits = refl
+  numbered-indexes (restricted.kept cond item list later both some r) rest is c p waits =
       let f = number long n at in
       let count : length (list ++ rest) ≡ length list + left = length-append list rest ∙ ap (λ k. length list + k) is in
       by (s.has item.0.0 c) (s.has cond.0 c) (both.at c p ∙ (ap (λ w. s.has item.0.0 c && w) waits ∙ and-true (s.has item.0.0 c))) (ap f count) (numbered-indexes r rest is c p waits)
@@ -335,7 +335,7 @@ module _ (s : Sets) (waiting long n at left : ℕ) where
       by false false same count all = all
       by true false same count all = absurd (true≢false (sym same))
       by false true same count all = absurd (true≢false same)
-  numbered-indexes (unchanged.left_out item list later none r) rest is c p waits = by (s.has item.0.0 c) (sym (ap (λ w. s.has item.0.0 c && w) waits) ∙ none c p) (numbered-indexes r rest is c p waits)
+  numbered-indexes (restricted.left_out item list later none r) rest is c p waits = by (s.has item.0.0 c) (sym (ap (λ w. s.has item.0.0 c && w) waits) ∙ none c p) (numbered-indexes r rest is c p waits)
     where
       by : (a : Bool) → (a && true) ≡ false → map (number long n at) (behind_at s (list ++ rest) c) ≡ indexes_in s (numbered r) c ++ map (number long n at) (behind_at s rest c)
           → map (number long n at) (if a then length (list ++ rest) ∷ behind_at s (list ++ rest) c else behind_at s (list ++ rest) c) ≡ indexes_in s (numbered r) c ++ map (number long n at) (behind_at s rest c)
@@ -347,11 +347,11 @@ module _ (s : Sets) (waiting long n at left : ℕ) where
 
   -- what holds of the number of each that is gone
   numbered-all : {gone kept : List (Cond × Hidden)} (P : ℕ → Type 0) (r : IsRestricted s waiting gone kept) → ((j : ℕ) → left ≤ j → j < length gone + left → P (number long n at j)) → All (λ x. P x.0) (numbered r)
-  numbered-all P unchanged.empty each = All-nil (λ (x : ℕ × (Cond × Hidden)). P x.0)
-  numbered-all P (unchanged.kept cond item list rest both some r) each =
+  numbered-all P restricted.empty each = All-nil (λ (x : ℕ × (Cond × Hidden)). P x.0)
+  numbered-all P (restricted.kept cond item list rest both some r) each =
       let j = length list + left in
       All-cons (λ (x : ℕ × (Cond × Hidden)). P x.0) (number long n at j, (cond, item.1)) (numbered r) (each j (omega arith) (omega arith)) (numbered-all P r (λ i le less. each i le (omega (arith, less))))
-  numbered-all P (unchanged.left_out item list rest none r) each = numbered-all P r (λ i le less. each i le (omega (arith, less)))
+  numbered-all P (restricted.left_out item list rest none r) each = numbered-all P r (λ i le less. each i le (omega (arith, less)))
 
   -- they are of the item, or of later ones that are gone
   pub numbered-behind : {gone kept : List (Cond × Hidden)} (bound : ℕ) (r : IsRestricted s waiting gone kept) → at < long - bound → bound ≤ n → bound ≤ left → n ≤ long → All (λ x. x.0 < long - bound) (numbered r)
@@ -369,8 +369,8 @@ module _ (s : Sets) (waiting long n at left : ℕ) where
 
   -- one of each item at most, where it is not the item that is being expanded or only its own token
   pub numbered-once : {gone kept : List (Cond × Hidden)} (r : IsRestricted s waiting gone kept) (k : ℕ) → at < long - n → n ≤ long → (k ≡ at → length gone + left ≤ suc n) → length (of_item k (numbered r)) ≤ 1
-  numbered-once unchanged.empty k low all one = omega arith
-  numbered-once (unchanged.kept cond item list rest both some r) k low all one =
+  numbered-once restricted.empty k low all one = omega arith
+  numbered-once (restricted.kept cond item list rest both some r) k low all one =
       by (cases_eq k (number long n at (length list + left))) (numbered-once r k low all (λ same. (let few = one same in omega (arith, few))))
     where
       by : (k ≡ number long n at (length list + left)) ⊎ (k ≡ number long n at (length list + left) → ⊥) → length (of_item k (numbered r)) ≤ 1
@@ -385,13 +385,13 @@ module _ (s : Sets) (waiting long n at left : ℕ) where
           let none = ap length (item-none k (numbered r) (λ i x h is. (let le = least i x h in
           elim (number-cases (length list + left)) [ inl a ↦ omega (arith, le, is, same, a.0, a.1, all) | inr b ↦ omega (arith, le, is, same, b.0, b.1, low, few) ]))) in
           omega (arith, first, none)
-  numbered-once (unchanged.left_out item list rest none r) k low all one = numbered-once r k low all (λ same. (let few = one same in omega (arith, few)))
+  numbered-once (restricted.left_out item list rest none r) k low all one = numbered-once r k low all (λ same. (let few = one same in omega (arith, few)))
 
   -- where nothing is gone nothing is kept
   pub numbered-none : {gone kept : List (Cond × Hidden)} (r : IsRestricted s waiting gone kept) → gone ≡ [] → numbered r ≡ []
-  numbered-none unchanged.empty none = refl
-  numbered-none (unchanged.kept cond item list rest both some r) none = absurd (cc)
-  numbered-none (unchanged.left_out item list rest none' r) none = absurd (cc)
+  numbered-none restricted.empty none = refl
+  numbered-none (restricted.kept cond item list rest both some r) none = absurd (cc)
+  numbered-none (restricted.left_out item list rest none' r) none = absurd (cc)
 
   -- ---- those of the item
 
@@ -410,8 +410,8 @@ module _ (s : Sets) (waiting long n at left : ℕ) where
     -- both have them, or neither
     pub numbered-alike : {gone kept : List (Cond × Hidden)} (r : IsRestricted s waiting gone kept) (c d : List ℕ) → IsConfig s.arities c → IsConfig s.arities d → s.has waiting c ≡ s.has waiting d → Fronts (λ item. IsAlike s c d item.0) gone
         → AreAlike s c d (of_item at (numbered r))
-    numbered-alike unchanged.empty c d p q waits fronts = All-nil (λ (item : Cond × Hidden). IsAlike s c d item.0)
-    numbered-alike (unchanged.kept cond item list rest both some r) c d p q waits fronts =
+    numbered-alike restricted.empty c d p q waits fronts = All-nil (λ (item : Cond × Hidden). IsAlike s c d item.0)
+    numbered-alike (restricted.kept cond item list rest both some r) c d p q waits fronts =
         let P : Cond × Hidden → Type 0 = λ x. IsAlike s c d x.0 in
         let j = length list + left in
         let later = numbered-alike r c d p q waits fronts.1 in
@@ -422,12 +422,12 @@ module _ (s : Sets) (waiting long n at left : ℕ) where
               let alike : s.has cond.0 c ≡ s.has cond.0 d = both.at c p ∙ ((λ i. here i && waits i) ∙ sym (both.at d q)) in
               subst (AreAlike s c d) (sym (same-number j (cond, item.1) (numbered r) b.1)) (All-cons P (cond, item.1) (of_item at (numbered r)) alike later)
         ]
-    numbered-alike (unchanged.left_out item list rest none r) c d p q waits fronts = numbered-alike r c d p q waits fronts.1
+    numbered-alike (restricted.left_out item list rest none r) c d p q waits fronts = numbered-alike r c d p q waits fronts.1
 
     -- who has no token behind which so many stand has none
     pub numbered-lacks : {gone kept : List (Cond × Hidden)} (r : IsRestricted s waiting gone kept) (c : List ℕ) → IsConfig s.arities c → Fronts (λ item. s.has item.0.0 c ≡ false) gone → items_at s (of_item at (numbered r)) c ≡ []
-    numbered-lacks unchanged.empty c p fronts = refl
-    numbered-lacks (unchanged.kept cond item list rest both some r) c p fronts =
+    numbered-lacks restricted.empty c p fronts = refl
+    numbered-lacks (restricted.kept cond item list rest both some r) c p fronts =
         let j = length list + left in
         let later = numbered-lacks r c p fronts.1 in
         elim (number-cases j) [
@@ -437,7 +437,7 @@ module _ (s : Sets) (waiting long n at left : ℕ) where
               ap (λ l. items_at s l c) (same-number j (cond, item.1) (numbered r) b.1)
               ∙ (ap (λ (h : Bool). if h then item.1 ∷ items_at s (of_item at (numbered r)) c else items_at s (of_item at (numbered r)) c) not ∙ later)
         ]
-    numbered-lacks (unchanged.left_out item list rest none r) c p fronts = numbered-lacks r c p fronts.1
+    numbered-lacks (restricted.left_out item list rest none r) c p fronts = numbered-lacks r c p fronts.1
 
   -- first tokens of a list that are alike up to its last ones
   pub fronts-alike : (c d : List ℕ) (bound : ℕ) (gone rest : List (Cond × Hidden)) → length rest ≡ left → bound ≤ n → AreAlike s c d (take (length (gone ++ rest) - bound) (gone ++ rest)) → Fronts (λ item. IsAlike s c d item.0) gone

@@ -15,12 +15,12 @@ use Rattle.sc_expand.proofs.RunLemmas.{IsRunning, running-stands, turned-at}
 use Rattle.sc_expand.proofs.SeenLemmas.{seen_at-Grows}
 use Rattle.sc_expand.proofs.Terms.{AreHeld, Call, Cond, Enclosing, Expansion, Grows, Hidden, HiddenToken, IsAbsent, IsConfig, IsHeldExpansion, IsPending, Macros, Moves, Place, Sets, Stands, State, Stores, View, Waiting, at, behind_at, calls_at, expanding, items_at, lower_of, no_view, provenance_of, scanning, seen_at, seen_hidden, state_by, state_in, state_of, view_at, waiting, waiting_at}
 use Rattle.sc_expand.proofs.Turning.{put_by-held}
-use Rattle.sc_expand.proofs.UnchangedLemmas.{never-empty}
+use Rattle.sc_expand.proofs.RestrictedLists.{never-empty}
 use Rattle.sc_expand.specs.FootprintSteps as steps
 use Rattle.sc_expand.specs.Open as open_end
 use Rattle.sc_expand.specs.Running as running
 use Rattle.sc_expand.specs.Running.{HasEnded, IsAsLong, IsTurned, Pushes, Rest, all, bottom, bottom_by, but_first, next_of, put, put_out, took}
-use Rattle.sc_expand.specs.Unchanged as unchanged
+use Rattle.sc_expand.specs.Restricted as restricted
 
 -- ---- what a configuration has of lists
 
@@ -283,8 +283,8 @@ module _ (files : List (List ℕ)) (macros : List ℕ → Macros)
       where
         by : {b : Bool} → Pushes new.sets e after b → take phase.outs (put_out after) ≡ take phase.outs (put_out e)
         by (running.nothing is) = ap (take phase.outs) is
-        by (running.first item cond one none at (unchanged.pushed some is)) = ap (take phase.outs) is ∙ take-append-le phase.outs (put_out e) ((cond, item.1) ∷ []) phase.low
-        by (running.first item cond one none at (unchanged.absent never is)) = ap (take phase.outs) is
+        by (running.first item cond one none at (restricted.pushed some is)) = ap (take phase.outs) is ∙ take-append-le phase.outs (put_out e) ((cond, item.1) ∷ []) phase.low
+        by (running.first item cond one none at (restricted.absent never is)) = ap (take phase.outs) is
 
     pub held-first : AreHeld now (length files) (take phase.outs (put_out e))
     held-first = held-take phase.outs (put_out e) (put_by-held e.below.items e.top r.held.below r.held.top)

@@ -28,7 +28,7 @@ use Rattle.sc_expand.specs.Running as running
 use Rattle.sc_expand.specs.Spans as spans
 use Rattle.sc_expand.specs.Turn as turn
 use Rattle.sc_expand.specs.Turn.{EndsBy, IsDecided, held_up, refused}
-use Rattle.sc_expand.specs.Unchanged as unchanged
+use Rattle.sc_expand.specs.Restricted as restricted
 
 drop-more : {A : Type 0} (n : ℕ) (xs ys : List A) → n ≤ length xs → drop n (xs ++ ys) ≡ drop n xs ++ ys
 drop-more zero xs ys le = refl
@@ -65,18 +65,18 @@ module _ (files : List (List ℕ)) (macros : List ℕ → Macros) (names : List 
 
   abbrev last-of : {b : Bool} → Pushes new.sets e after b → List (Cond × Hidden)
   last-of (running.nothing is) = []
-  last-of (running.first item cond one none first (unchanged.pushed some is)) = (cond, item.1) ∷ []
-  last-of (running.first item cond one none first (unchanged.absent never is)) = []
+  last-of (running.first item cond one none first (restricted.pushed some is)) = (cond, item.1) ∷ []
+  last-of (running.first item cond one none first (restricted.absent never is)) = []
 
   last-is : {b : Bool} (k : Pushes new.sets e after b) → put_out after ≡ put_out e ++ last-of k
   last-is (running.nothing is) = is ∙ sym (append-nil (put_out e))
-  last-is (running.first item cond one none first (unchanged.pushed some is)) = is
-  last-is (running.first item cond one none first (unchanged.absent never is)) = is ∙ sym (append-nil (put_out e))
+  last-is (running.first item cond one none first (restricted.pushed some is)) = is
+  last-is (running.first item cond one none first (restricted.absent never is)) = is ∙ sym (append-nil (put_out e))
 
   last-one : {b : Bool} (k : Pushes new.sets e after b) (c : List ℕ) (item : Cond × Hidden) → slice_get e.top.work 0 ≡ Some item → length (items_at new.sets (last-of k) c) ≡ 1 → items_at new.sets (last-of k) c ≡ item.1 ∷ []
   last-one (running.nothing is) c item at one = absurd (omega (arith, one))
-  last-one (running.first x cond whole none first (unchanged.absent never is)) c item at one = absurd (omega (arith, one))
-  last-one (running.first x cond whole none first (unchanged.pushed some is)) c item at one = by (new.sets.has cond.0 c) one
+  last-one (running.first x cond whole none first (restricted.absent never is)) c item at one = absurd (omega (arith, one))
+  last-one (running.first x cond whole none first (restricted.pushed some is)) c item at one = by (new.sets.has cond.0 c) one
     where
       by : (b : Bool) → length (if b then x.1 ∷ [] else []) ≡ 1 → (if b then x.1 ∷ [] else []) ≡ item.1 ∷ []
       by true one = ap (λ (y : Cond × Hidden). y.1 ∷ []) (same-slice e.top.work 0 x item first at)
@@ -84,8 +84,8 @@ module _ (files : List (List ℕ)) (macros : List ℕ → Macros) (names : List 
 
   last-alike : {b : Bool} (k : Pushes new.sets e after b) (c d : List ℕ) → length (items_at new.sets (last-of k) c) ≡ length (items_at new.sets (last-of k) d) → AreAlike new.sets c d (last-of k)
   last-alike (running.nothing is) c d one = All-nil (λ (x : Cond × Hidden). IsAlike new.sets c d x.0)
-  last-alike (running.first x cond whole none first (unchanged.absent never is)) c d one = All-nil (λ (x : Cond × Hidden). IsAlike new.sets c d x.0)
-  last-alike (running.first x cond whole none first (unchanged.pushed some is)) c d one =
+  last-alike (running.first x cond whole none first (restricted.absent never is)) c d one = All-nil (λ (x : Cond × Hidden). IsAlike new.sets c d x.0)
+  last-alike (running.first x cond whole none first (restricted.pushed some is)) c d one =
       All-cons (λ (y : Cond × Hidden). IsAlike new.sets c d y.0) (cond, x.1) [] (by (new.sets.has cond.0 c) (new.sets.has cond.0 d) one) (All-nil (λ (y : Cond × Hidden). IsAlike new.sets c d y.0))
     where
       by : (a b : Bool) → length (if a then x.1 ∷ [] else []) ≡ length (if b then x.1 ∷ [] else []) → a ≡ b

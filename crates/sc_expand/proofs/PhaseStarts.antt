@@ -15,7 +15,7 @@ use Rattle.sc_expand.proofs.PhaseSegments.{bottom-is, held-drop, held-take, out-
 use Rattle.sc_expand.proofs.Placed.{IsNext, Placed, away, placed-next}
 use Rattle.sc_expand.proofs.RunLemmas.{IsRunning, rests-at, running-apart, running-stands, start-state, told-apart}
 use Rattle.sc_expand.proofs.SeenLemmas.{seen_at-Grows}
-use Rattle.sc_expand.proofs.Terms.{AreAlike, AreAlikeFaults, AreHeld, Call, Cond, Drops, Enclosing, Expansion, Fault, Frame, Grows, Hidden, HiddenToken, IsAlike, IsAlikeCall, IsAlikeEnclosing, IsAlikeExpansion, IsAlikeFrame, IsCond, IsConfig, IsHeldExpansion, IsPending, IsRested, IsUntouched, KeepsGone, Macros, Others, Passes, Place, Refusals, Sets, State, Stores, begins, behind_at, bottom, bottom_by, items_at, lower_of, others_at, provenance_of, put_by, put_out, scanning, seen_at, seen_hidden}
+use Rattle.sc_expand.proofs.Terms.{AreAlike, AreAlikeFaults, AreHeld, Call, Cond, Enclosing, Expansion, Fault, Frame, Grows, Hidden, HiddenToken, IsAlike, IsAlikeCall, IsAlikeEnclosing, IsAlikeExpansion, IsAlikeFrame, IsCond, IsConfig, IsHeldExpansion, IsPending, IsRested, IsUncalled, IsUntouched, KeepsGone, Macros, Others, Passes, Place, Refusals, Sets, State, Stores, begins, behind_at, bottom, bottom_by, items_at, lower_of, others_at, provenance_of, put_by, put_out, scanning, seen_at, seen_hidden}
 use Rattle.sc_expand.proofs.Turning.{put_by-held}
 use Rattle.sc_expand.specs.Spans.{IsSameName, indexes_in, of_item, passed}
 
@@ -306,23 +306,23 @@ module _ {files : List (List ℕ)} {macros : List ℕ → Macros} {old now : Sto
           was-work : (bottom e).work ≡ f.first ∷ f.rest
           was-work = ap (λ bs. (bottom_by bs e.top).work) f.below ∙ f.work
 
-          drops : Drops now.sets e after
-          drops = rested.drops (length files) r.held (record { below = f.below; calls = f.calls })
+          uncalled : IsUncalled after
+          uncalled = rested.uncalled (record { below = f.below; calls = f.calls })
 
           by : (gs : List (Cond × Hidden)) → gone.gone ≡ gs
               → IsFresh files macros old new was after phase.came phase.at n (phase.kept ++ more) ⊎ IsWorn files macros old new was after phase.came phase.at n (phase.kept ++ more)
           by [] none = inl (record {
-            below = drops.uncalled.below;
-            calls = drops.uncalled.calls;
+            below = uncalled.below;
+            calls = uncalled.calls;
             first = f.first;
             rest = f.rest;
-            work = sym (ap (λ bs. (bottom_by bs after.top).work) drops.uncalled.below) ∙ stands;
+            work = sym (ap (λ bs. (bottom_by bs after.top).work) uncalled.below) ∙ stands;
             long = let count = ap length stands in let rest = f.long in omega (arith, count, rest, lower-min (length (bottom after).work) phase.n);
             none = item-append phase.at phase.kept more ∙ ((λ i. f.none i ++ of_item phase.at (numbered-none new.sets e.refusals.waiting.0 (length was.top.work) phase.n phase.at long gone.is none i)));
             has = λ c p here. rested.grows.sets.at f.first.0.0 c (All-head (λ (item : Cond × Hidden). IsCond now.sets item.0.0) f.first f.rest (subst (All (λ (item : Cond × Hidden). IsCond now.sets item.0.0)) f.work r.held.top.work.own)) (IsConfig-Keeps grows.sets p) ∙ f.has c p here;
             starts = λ c p here.
                 let s = f.starts c p here in
-                let same : after.top.work ≡ e.top.work = sym (ap (λ bs. (bottom_by bs after.top).work) drops.uncalled.below) ∙ (stands ∙ sym f.work) in
+                let same : after.top.work ≡ e.top.work = sym (ap (λ bs. (bottom_by bs after.top).work) uncalled.below) ∙ (stands ∙ sym f.work) in
                 (s.0, ap (λ l. seen_at new l c) same ∙ (seen_at-Grows rested.grows c (IsConfig-Keeps grows.sets p) e.top.work r.held.top.work ∙ s.1));
           })
             where

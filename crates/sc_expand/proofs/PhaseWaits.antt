@@ -20,7 +20,7 @@ use Rattle.sc_expand.specs.Open as open_end
 use Rattle.sc_expand.specs.Running as running
 use Rattle.sc_expand.specs.Spans as spans
 use Rattle.sc_expand.specs.Turn as turn
-use Rattle.sc_expand.specs.Unchanged as unchanged
+use Rattle.sc_expand.specs.Restricted as restricted
 
 module _ (files : List (List ℕ)) (macros : List ℕ → Macros) {old now : Stores} {was e : Expansion} (grows : Grows old now) (r : IsRunning files macros old now was e) (began : IsHeldExpansion old (length files) was)
     (phase : Phase files macros old now was e) (ready : IsReady files macros phase) (new : Stores) (after : Expansion) (other : List ℕ → Macros) (same : (c : List ℕ) → IsConfig old.sets.arities c → other c ≡ macros c)
@@ -40,8 +40,8 @@ module _ (files : List (List ℕ)) (macros : List ℕ → Macros) {old now : Sto
     where
       by : {b : Bool} → Pushes new.sets e after b → phase.outs ≤ length (put_out after)
       by (running.nothing is) = let low = phase.low in omega (arith, low, ap length is)
-      by (running.first item cond one none first (unchanged.pushed some is)) = let low = phase.low in omega (arith, low, ap length is, length-append (put_out e) ((cond, item.1) ∷ []))
-      by (running.first item cond one none first (unchanged.absent never is)) = let low = phase.low in omega (arith, low, ap length is)
+      by (running.first item cond one none first (restricted.pushed some is)) = let low = phase.low in omega (arith, low, ap length is, length-append (put_out e) ((cond, item.1) ∷ []))
+      by (running.first item cond one none first (restricted.absent never is)) = let low = phase.low in omega (arith, low, ap length is)
 
   -- what waits of the item is all that a turn keeps
   abbrev pub kept-later : List (ℕ × (Cond × Hidden))

@@ -1,5 +1,5 @@
 -- What is to be done at a token, by what is known of it.
-use Rattle.std.proofs.Common.{◌≡◌, ℕ, zero, Bool, true, false, List, [], ◌∷◌, length, codes, Option, Some, None, refl, ap, ◌∙◌, if◌then◌else◌, is_some}
+use Rattle.std.proofs.Common.{◌≡◌, ℕ, zero, true, false, List, [], ◌∷◌, length, codes, Option, Some, None, ap, ◌∙◌, if◌then◌else◌, is_some}
 use Rattle.c11_macros.specs.Call.{Call, call_of}
 use Rattle.sc_expand.proofs.Terms.{Definition, Form, HiddenToken as Hidden, Macros, Rest, call_case, case_of, defined_case, form_case, function_like, is_looked_up, looked_up_case, object_like, replaced, same_bytes, stays, unclosed}
 
@@ -38,16 +38,3 @@ module _ {P : Type 0} (macros : Macros) (t : Hidden P) where
 
         pub case-open : call_of (length parameters) zero us ≡ None → case_of macros t (u ∷ us) ≡ unclosed
         case-open none = case-call None none
-
--- ---- names that are not defined
-
--- the token is no defined name, or hides it
-abbrev pub IsUndefined : {P : Type 0} → Macros → Hidden P → Type 0
-IsUndefined macros t = is_looked_up t ≡ true → macros t.spelling ≡ None
-
-pub undefined-stays : {P : Type 0} (macros : Macros) (t : Hidden P) (rest : List (Hidden P)) → IsUndefined macros t → case_of macros t rest ≡ stays
-undefined-stays macros t rest undefined = by (is_looked_up t) undefined
-  where
-    by : (b : Bool) → (b ≡ true → macros t.spelling ≡ None) → looked_up_case macros b t.spelling rest ≡ stays
-    by true none = ap (λ o. defined_case o rest) (none refl)
-    by false none = refl

@@ -9,7 +9,7 @@ use Rattle.sc_expand.proofs.MachineCalls.{calls_at-append, leave-other}
 use Rattle.sc_expand.proofs.MachineLemmas.{Stands-Grows, state_in-Grows}
 use Rattle.sc_expand.proofs.SeenLemmas.{AreHeld-tail, Grows-refl, Grows-trans, IsHeldExpansion-Grows, at-Grows}
 use Rattle.sc_expand.proofs.Terms.{AreAlike, AreAlikeRefusals, AreHeld, At, Call, Cond, Denotes, Enclosing, EndsBy, Expansion, Frame, Grows, Hidden, IsAlike, IsAlikeCall, IsAlikeEnclosing, IsAlikeFrame, IsCond, IsConfig, IsDropped, IsHeldCall, IsHeldEnclosing, IsHeldExpansion, IsHeldFrame, IsHeldRefusals, IsNever, IsReady, IsRested, Keeps, KeepsFirst, Macros, Moves, Place, Progress, Provenance, Sets, Stands, Stores, Waits, at, behind_at, bottom, bottom_by, calls_at, ends, ends_at, gone, items_at, last_of, next_by, next_of, no_others, others_at, put_by, rests, seen_at, seen_hidden, state_in, steps, view_at, waiting_at, with_end}
-use Rattle.sc_expand.proofs.UnchangedLemmas.{drops-first, drops-nothing, drops-then, never-empty, not-both}
+use Rattle.sc_expand.proofs.RestrictedLists.{never-empty, not-both}
 use Rattle.sc_expand.proofs.WaitingLemmas.{dropped-alike, dropped-left, kept-held, kept-later, left-then, rest-alike, same-left}
 use Rattle.sc_expand.specs.Running as running
 use Rattle.sc_expand.specs.Waiting as waiting
@@ -92,7 +92,7 @@ module _ {old new : Stores} (grows : Grows old new) (e : Expansion) where
     left = λ files held. same-left grows e e held refl refl refl;
     keeps = λ files held. gone-nothing new.sets e e refl refl;
     alike_left = λ files c d held p q alike all. rest-alike e grows held refl p q all;
-    drops = λ files held uncalled. drops-nothing old.sets e uncalled;
+    uncalled = λ uncalled. uncalled;
     alike = λ files c d others held p q alike. IsAlikeExpansion-Keeps grows.sets p q others e held alike;
     rest = λ files c held p live. behind-Keeps grows.sets p (bottom e).work (bottom-held e held);
   }
@@ -148,7 +148,7 @@ module _ (st : Stores) (e after : Expansion) (refusals : after.refusals ≡ e.re
     alike_left = λ files c d held p q alike all. dropped-alike st e after held below kept_first p q alike all;
     left = λ files held. dropped-left st (Keeps-refl st.sets) e after held refusals below out (ap (drop 1) (sym work)) kept_first;
     keeps = λ files held. gone-first st.sets e after item work below kept_first;
-    drops = λ files held uncalled. drops-first st.sets e after item never work calls out below uncalled;
+    uncalled = λ uncalled. record { below = ap (λ b. b.items) below ∙ uncalled.below; calls = calls ∙ uncalled.calls };
     alike = λ files c d others held p q alike.
         let here = others_at others (length e.below.items) in
         let Same : Cond × Hidden → Type 0 = λ item. IsAlike st.sets c d item.0 in
@@ -195,7 +195,7 @@ module _ (st : Stores) (e after : Expansion) (refusals : after.refusals ≡ e.re
     left = λ files held. same-left (Grows-refl st) e after held rest (ap (λ b. (bottom_by b.items after.top).work) below ∙ bottom-same e.below.items after.top e.top work)
         (ap (λ b. put_by b.items after.top) below ∙ put-same e.below.items after.top e.top out);
     keeps = λ files held. gone-nothing st.sets e after (ap (λ b. (bottom_by b.items after.top).work) below ∙ bottom-same e.below.items after.top e.top work) rest;
-    drops = λ files held uncalled. absurd (never-empty after.top.calls.items k (sym calls ∙ uncalled.calls));
+    uncalled = λ uncalled. absurd (never-empty after.top.calls.items k (sym calls ∙ uncalled.calls));
     alike = λ files c d others held p q alike.
         let here = others_at others (length e.below.items) in
         record {
@@ -237,7 +237,7 @@ module _ (st : Stores) (e after : Expansion) (refusals : after.refusals ≡ e.re
     keeps = λ files held.
         gone-nothing st.sets e after
         (ap (λ t. (bottom_by after.below.items t).work) top ∙ (sym (ap (λ f. f.work) (bottom-less after.below.items o e.top)) ∙ sym (ap (λ bs. (bottom_by bs e.top).work) below))) rest;
-    drops = λ files held uncalled. absurd (never-empty after.below.items o (sym below ∙ uncalled.below));
+    uncalled = λ uncalled. absurd (never-empty after.below.items o (sym below ∙ uncalled.below));
     alike = λ files c d others held p q alike.
         let last = enclosing-last {others = others} e after.below.items o below alike in
         record {
@@ -269,9 +269,7 @@ rested-then {old} {mid} {new} {one} {two} {three} a b = record {
   alike_left = λ files c d held p q alike all. b.alike_left files c d (a.held files held) (IsConfig-Keeps a.grows.sets p) (IsConfig-Keeps a.grows.sets q) (a.alike files c d no_others held p q alike) (a.alike_left files c d held p q alike all);
   left = λ files held. left-then one two three a.grows b.grows held (a.held files held) a.refusals b.refusals (a.left files held) (b.left files (a.held files held));
   keeps = λ files held. gone-then one two three a.grows b.grows.sets held a.refusals (a.keeps files held) (b.keeps files (a.held files held));
-  drops = λ files held uncalled.
-      let first = a.drops files held uncalled in
-      drops-then old.sets mid.sets one two three a.grows.sets held.refusals.live held.top.work.own a.refusals first (b.drops files (a.held files held) first.uncalled);
+  uncalled = λ uncalled. b.uncalled (a.uncalled uncalled);
   alike = λ files c d others held p q alike. b.alike files c d others (a.held files held) (IsConfig-Keeps a.grows.sets p) (IsConfig-Keeps a.grows.sets q) (a.alike files c d others held p q alike);
   rest = λ files c held p live.
       let still : mid.sets.has two.refusals.live.0 c ≡ true = ap (λ r. mid.sets.has r.live.0 c) a.refusals ∙ (a.grows.sets.at one.refusals.live.0 c held.refusals.live p ∙ live) in

@@ -8,11 +8,9 @@ use Rattle.sc_expand.proofs.PlainTurns.{IsTurn, steps_left, turn-le, turn-less}
 use Rattle.sc_expand.proofs.SeenLemmas.{AreHeld-Grows, Grows-refl}
 use Rattle.sc_expand.proofs.Terms.{Cond, Enclosing, Expansion, Frame, Grows, HasEnded, Hidden, HiddenToken, IsApart, IsConfig, IsDone, IsExpansion, IsHeldExpansion, IsNever, IsRested, IsTurned, IsUntouched, IsWithin, KeepsLeft, Macros, Place, Progress, Provenance, PutsOut, Settles, Stands, Stores, Waiting, at, bottom, bottom_by, calls_at, ends, ends_at, expanding, failures_at, gone, left_at, on_top, provenance_of, put_by, put_out, rests, scanning, seen_at, state_by, state_in, state_of, steps, view_at, waiting_at}
 use Rattle.sc_expand.proofs.Turning.{puts-nothing, puts-same}
-use Rattle.sc_expand.proofs.UnchangedLemmas.{drops-pass, looks-later, passes-all, passes-Keeps, passes-nothing, passes-then}
 use Rattle.sc_expand.specs.Running as running
 use Rattle.sc_expand.specs.Turn as turn
 use Rattle.sc_expand.specs.Turn.{At, End, Ends, no_end, with_end}
-use Rattle.sc_expand.specs.Unchanged.{IsRestricted, LooksUpNone, Passes}
 
 -- what holds of an expansion that began so, at each configuration
 pub record IsRunning (files : List (List ℕ)) (macros : List ℕ → Macros) (old now : Stores) (was e : Expansion) : Type 0 where
@@ -22,7 +20,6 @@ pub record IsRunning (files : List (List ℕ)) (macros : List ℕ → Macros) (o
   pub rest : (c : List ℕ) → IsConfig old.sets.arities c → now.sets.has e.refusals.waiting.0 c ≡ false → seen_at now e.rest c ≡ []
   pub some : All (λ item. IsNever now.sets item.0.0 → ⊥) e.rest
   pub out : PutsOut old now was.refusals.live.0 was.top.out (put_out e)
-  pub passes : LooksUpNone old.sets old.names macros was → Passes now.sets was e
 
 pub less-le : {a b d : ℕ} → a < b → b ≤ d → a < d
 less-le less le = omega arith
@@ -56,7 +53,6 @@ module _ (files : List (List ℕ)) (macros : List ℕ → Macros) (old : Stores)
     rest = λ c listed none. ap (λ l. seen_at old l c) fresh.rest;
     some = let Some : Cond × Hidden → Type 0 = λ item. IsNever old.sets item.0.0 → ⊥ in subst (All Some) (sym fresh.rest) (All-nil Some);
     out = subst (PutsOut old old was.refusals.live.0 was.top.out) (sym (ap (λ bs. put_by bs was.top) fresh.below)) (puts-nothing (Grows-refl old) was.refusals.live.0 was.top.out held.top.out);
-    passes = λ none. passes-nothing old.sets was (record { below = fresh.below; calls = fresh.calls });
   }
     where
       ends-none : (c : List ℕ) → IsConfig old.sets.arities c → ends_at old.sets was.refusals c ≡ no_end
@@ -175,8 +171,8 @@ module _ {files : List (List ℕ)} {macros : List ℕ → Macros} {old now : Sto
           (s.0, s.1.step);
     }
 
-    pub running-later : IsHeldExpansion new (length files) after → PutsOut now new e.refusals.live.0 (put_out e) (put_out after) → (LooksUpNone old.sets old.names macros was → Passes new.sets was after) → KeepsLeft now new e after → IsRunning files macros old new was after
-    running-later held out passes left = record { held = held; told = told-later left; rest = rest-later left; some = left.some r.some; out = puts-then grows running-fewer r.out out; passes = passes }
+    pub running-later : IsHeldExpansion new (length files) after → PutsOut now new e.refusals.live.0 (put_out e) (put_out after) → KeepsLeft now new e after → IsRunning files macros old new was after
+    running-later held out left = record { held = held; told = told-later left; rest = rest-later left; some = left.some r.some; out = puts-then grows running-fewer r.out out }
 
     module _ (names : List (List ℕ)) (within : (c : List ℕ) → IsWithin names (macros c)) where
       pub running-le : steps_in old.sets.arities files macros names within new after ≤ steps_in old.sets.arities files macros names within now e
@@ -212,10 +208,6 @@ module _ {files : List (List ℕ)} {macros : List ℕ → Macros} {old now : Sto
 
     pub running-rested : IsRunning files macros old new was after
     running-rested = running-later grows r new after (λ c. false) rests-at (rested.held (length files) r.held) (puts-same rested.grows e.refusals.live.0 e after r.held rested.out)
-        (λ none.
-        let p = r.passes none in
-        let q = passes-then now.sets was e after p (drops-pass now.sets e after rested.refusals (rested.drops (length files) r.held p.uncalled)) in
-        passes-Keeps was after rested.grows.sets (grows.sets.own was.refusals.live.0 began.refusals.live) (AreHeld-Grows grows was.top.work began.top.work).own q)
         (rested.left (length files) r.held)
 
     pub rested-le : (names : List (List ℕ)) (within : (c : List ℕ) → IsWithin names (macros c)) → steps_in old.sets.arities files macros names within new after ≤ steps_in old.sets.arities files macros names within now e
@@ -226,12 +218,7 @@ module _ {files : List (List ℕ)} {macros : List ℕ → Macros} {old now : Sto
     turned-at c listed = subst (λ m. Progress (provenance_of files) m now new c e.below.items after.below.items (at now e c) (at new after c) (turned.takes c)) (same c listed) (turned.progress c (IsConfig-Keeps grows.sets listed))
 
     pub running-turned : IsRunning files macros old new was after
-    running-turned = running-later grows r new after turned.takes turned-at turned.held turned.out (λ none.
-        let p = r.passes none in
-        let looks = looks-later grows macros other same (length files) was e began none p in
-        let live = grows.sets.own was.refusals.live.0 began.refusals.live in
-        let own = (AreHeld-Grows grows was.top.work began.top.work).own in
-        passes-then new.sets was e after (passes-Keeps was e turned.grows.sets live own p) (turned.passes p.uncalled looks)) turned.left
+    running-turned = running-later grows r new after turned.takes turned-at turned.held turned.out turned.left
 
     pub turned-less : (names : List (List ℕ)) (within : (c : List ℕ) → IsWithin names (macros c)) → went ≡ true → steps_in old.sets.arities files macros names within new after < steps_in old.sets.arities files macros names within now e
     turned-less names within there = running-less grows r new after turned.takes turned-at names within (turned.some there)
@@ -270,6 +257,3 @@ module _ {files : List (List ℕ)} {macros : List ℕ → Macros} {old now : Sto
 
   pub running-out : PutsOut old now was.refusals.live.0 was.top.out e.top.out
   running-out = subst (PutsOut old now was.refusals.live.0 was.top.out) (ap (λ bs. put_by bs e.top) ended.below) r.out
-
-  pub running-unchanged : was.top.out ≡ [] → LooksUpNone old.sets old.names macros was → IsRestricted now.sets was.refusals.live.0 was.top.work e.top.out × (e.refusals ≡ was.refusals)
-  running-unchanged fresh none = passes-all now.sets was e fresh ended.work (r.passes none)

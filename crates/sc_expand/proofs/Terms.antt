@@ -44,13 +44,13 @@ pub use Rattle.sc_expand.specs.Open.{Waits}
 pub use Rattle.sc_expand.specs.Parting.{parted_with}
 pub use Rattle.sc_expand.specs.Plain.{Fails, IsTemplate, Leads, Moves, State, Waiting, expanding, gathered, no_step, replacement_of, scanning, step, waiting, with_expanded, without_first}
 pub use Rattle.sc_expand.specs.Refusing.{BeginsToWait, LeavesOpen, Refuses, is_left, left_end}
-pub use Rattle.sc_expand.specs.Running.{GoesOn, HasEnded, IsApart, IsDone, IsDropped, IsReady, IsRested, IsTurned, IsUntouched, KeepsGone, KeepsLeft, KeepsNext, Pushes, PutsOut, bottom, bottom_by, frame_weight, last_of, left_at, next_by, next_of, put_by, put_out, weight}
+pub use Rattle.sc_expand.specs.Running.{GoesOn, HasEnded, IsApart, IsDone, IsDropped, IsReady, IsRested, IsTurned, IsUncalled, IsUntouched, KeepsGone, KeepsLeft, KeepsNext, Pushes, PutsOut, bottom, bottom_by, frame_weight, last_of, left_at, next_by, next_of, put_by, put_out, weight}
 pub use Rattle.sc_expand.specs.Seen.{AreHeld, Grows, IsHeldCall, IsHeldEnclosing, IsHeldFrame, IsHeldPartIn, IsHeldRefusals, IsHeldTemplate, IsHeldToken, Stores, View, calls_at, failures_at, provenance_of, seen_at, seen_failure, seen_template, seen_wanted, state_by, state_of, stores, view_at, waiting_at}
 pub use Rattle.sc_expand.specs.Settling.{IsHeldSettled, IsSettled}
 pub use Rattle.sc_expand.specs.Spans.{Becomes, ComesAt, HasSpansApart, InSegments, IsAhead, IsItself, IsSameName, IsSettling, IsSpan, PutsOutAt, StopsApart, WaitsAs, behind, indexes_at, indexes_in, last_ones, of_item}
 pub use Rattle.sc_expand.specs.Taking.{AreTaken, Comes, HasPutOut, HasTaken, IsBegun, IsFunction, IsHeldTaken, IsTaken, Replaces, Step, Takes, TakesPart, has_first, step_at, untaken}
 pub use Rattle.sc_expand.specs.Turn.{At, EndsBy, Turn, held_up, with_end}
-pub use Rattle.sc_expand.specs.Unchanged.{DefinesNone, Drops, IsPushed, IsRestricted, IsUndefined, LooksUpNone, absent, empty, pushed}
+pub use Rattle.sc_expand.specs.Restricted.{IsPushed, IsRestricted, absent, empty, pushed}
 pub use Rattle.sc_expand.specs.Waiting.{KeepsFirst}
 pub use Rattle.sc_expand.specs.WorkLists.{DropsAlike, KeepsItems, RestrictsFirst, items_behind, items_left, items_of}
 pub use Rattle.sc_expand.specs.declared.call.Call.{Call}

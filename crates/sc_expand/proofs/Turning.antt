@@ -10,12 +10,11 @@ use Rattle.sc_expand.proofs.MachineLemmas.{stands-cases, turn-progress}
 use Rattle.sc_expand.proofs.Rests.{next-argument, next-call, put-less, put-same, some-same}
 use Rattle.sc_expand.proofs.SeenLemmas.{Grows-refl, seen_at-Grows}
 use Rattle.sc_expand.proofs.Terms.{AreAlike, AreHeld, Call, CallNextAlike, Cond, DefineNextAlike, Enclosing, Expansion, Frame, Grows, HasLast, HasMore, Hidden, IsAlikeCall, IsAlikeEnclosing, IsAlikeExpansion, IsAlikeFrame, IsConfig, IsExpansion, IsFirstIn, IsHeldCall, IsHeldEnclosing, IsHeldExpansion, IsHeldFrame, IsResumed, Macros, Others, Progress, Sets, Stands, Stores, TakesName, Vec, View, at, at_call, calls_at, no_others, others_at, provenance_of, rests, seen_at, state_in, view_at, waiting_at, with_call}
-use Rattle.sc_expand.proofs.UnchangedLemmas.{never-empty}
+use Rattle.sc_expand.proofs.RestrictedLists.{never-empty}
 use Rattle.sc_expand.proofs.WaitingLemmas.{rest-alike, same-left}
 use Rattle.sc_expand.specs.Running as running
 use Rattle.sc_expand.specs.Running.{GoesOn, IsAsLong, IsReady, IsTurned, KeepsLeft, KeepsNext, Pushes, PutsOut, Rest, TakesFirst, bottom, bottom_by, last_of, next_by, next_of, put_by, put_out}
-use Rattle.sc_expand.specs.Unchanged as unchanged
-use Rattle.sc_expand.specs.Unchanged.{IsPushed, IsUncalled, LooksUpNone, Passes}
+use Rattle.sc_expand.specs.Restricted.{IsPushed}
 
 -- the calls on top are these
 abbrev pub with_calls : Expansion → Vec Call → Expansion
@@ -234,11 +233,10 @@ module _ {old new : Stores} (grows : Grows old new) (files : List (List ℕ)) (m
   -- a turn of the configurations that have what is next
   next-turn : (next : Cond) → next_of e ≡ Some next → IsReady old.sets e → IsHeldExpansion new (length files) after → PutsOut old new e.refusals.live.0 (put_out e) (put_out after) → Pushes new.sets e after true → KeepsLeft old new e after → KeepsNext old.sets new.sets e after true
       → ((c d : List ℕ) → IsConfig old.sets.arities c → IsConfig old.sets.arities d → DefineNextAlike old (macros c) (macros d) c e → CallNextAlike old (macros c) c d e → IsAlikeExpansion old.sets c d no_others e → AreAlike old.sets c d e.rest → AreAlike new.sets c d after.rest) → IsAsLong e after → ((c : List ℕ) → IsConfig old.sets.arities c → Rest old new e after c)
-      → (IsUncalled e → LooksUpNone old.sets old.names macros e → Passes new.sets e after)
       → ((c d : List ℕ) (others : Others) → IsConfig old.sets.arities c → IsConfig old.sets.arities d → DefineNextAlike old (macros c) (macros d) c e → CallNextAlike old (macros c) c d e → IsFirstIn others e
       → IsAlikeExpansion old.sets c d others e → IsAlikeExpansion new.sets c d others after)
       → ((c : List ℕ) → IsConfig old.sets.arities c → Progress (provenance_of files) (macros c) old new c e.below.items after.below.items (at old e c) (at new after c) (old.sets.has next.0 c)) → IsTurned files macros old new e after true
-  next-turn next here ready held out pushes left keeps alike_left long rest passes alike progress = record {
+  next-turn next here ready held out pushes left keeps alike_left long rest alike progress = record {
     grows = grows;
     held = held;
     out = out;
@@ -252,7 +250,6 @@ module _ {old new : Stores} (grows : Grows old new) (files : List (List ℕ)) (m
     which = λ cond is c. ap (λ (k : Cond). old.sets.has k.0 c) (some-same (sym here ∙ is));
     some = λ went. ready.some next here;
     ended = λ not. absurd (true≢false not);
-    passes = passes;
     alike = alike;
     rest = rest;
   }
@@ -270,7 +267,6 @@ module _ {old new : Stores} (grows : Grows old new) (files : List (List ℕ)) (m
       (λ c d p q defines same inside all. rest-alike after grows is.held gone.waits p q all)
       (running.all (omega (arith, gone.long, ap length whole)))
       (λ c listed. running.put (subst (λ l. HasMore old.sets new.sets l (bottom after).work c) whole (gone.rest c listed)))
-      (λ uncalled none. absurd (never-empty calls.items call (sym popped ∙ uncalled.calls)))
       (λ c d others p q defines same inside both. gone.alike c d others p q (call-alike e both calls call popped) (popped-alike e both calls (Some call) popped))
       (λ c listed. subst (λ a. Progress (provenance_of files) (macros c) old new c e.below.items after.below.items a (at new after c) (old.sets.has call.cond.0 c)) (at_call-popped old c e calls call popped) (gone.progress files (macros c) c listed))
 
@@ -284,9 +280,6 @@ module _ {old new : Stores} (grows : Grows old new) (files : List (List ℕ)) (m
       (λ c d p q defines same inside all. taken.alike_left c d p q (defines-next e calls none defines) (calls-next e calls none same) (none-alike e inside calls none) all)
       (long-taken grows e after taken.below none.before item first taken.long)
       (λ c listed. rest-taken grows e after taken.below none.before item first is.held listed (taken.rest c listed))
-      (λ uncalled looks.
-      let p = taken.passes (record { below = uncalled.below; calls = none.after }) looks in
-      record { passed = p.passed; put = p.put; work = p.work; out = p.out; restricted = p.restricted; refusals = p.refusals; uncalled = p.uncalled })
       (λ c d others p q defines same inside both. taken.alike c d others p q (defines-next e calls none defines) (calls-next e calls none same) (first-next e calls none inside) (none-alike e both calls none))
       (λ c listed.
       let progress = turn-progress (provenance_of files) (macros c) grows (length files) c listed e.below.items is.held.below refl (taken.turns c listed) in
@@ -324,7 +317,6 @@ module _ (st : Stores) (files : List (List ℕ)) (macros : List ℕ → Macros) 
     which = λ cond is c. ap (λ (k : Cond). st.sets.has k.0 c) (some-same (sym (next-argument e below.items o none.before empty less) ∙ is));
     some = λ went. ready.some o.call.cond (next-argument e below.items o none.before empty less);
     ended = λ not. absurd (true≢false not);
-    passes = λ uncalled looks. absurd (never-empty below.items o (sym less ∙ uncalled.below));
     alike = λ c d others p q defines same inside alike. alike-leave st.sets c d others e after below.items o less (ap (λ b. b.items) later) refusals work out resumed alike;
     rest = λ c listed. rest-same st e after (left-bottom below o less work later) is.held listed;
   }
@@ -358,15 +350,6 @@ module _ (st : Stores) (files : List (List ℕ)) (macros : List ℕ → Macros) 
     which = λ cond is c. absurd (not-some-none (sym (next-none e none.before empty less.before) ∙ is));
     some = λ went. absurd (true≢false (sym went));
     ended = λ went. record { below = less.after; work = empty; calls = none.after };
-    passes = λ uncalled looks. record {
-      passed = [];
-      put = [];
-      work = refl;
-      out = sym (append-nil e.top.out);
-      restricted = unchanged.empty;
-      refusals = refl;
-      uncalled = record { below = less.after; calls = none.after };
-    };
     alike = λ c d others p q defines same inside alike. alone-alike e alike calls below none less;
     rest = λ c listed. rest-same st e (with_below e calls below) (alone-bottom calls below less) is.held listed;
   }

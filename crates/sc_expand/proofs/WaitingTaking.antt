@@ -111,13 +111,3 @@ put-out-alike {st} {new} later now next taken token held put {c} {d} p q alike e
 -- the first token is one of all that are looked at
 pub first-of-all : (e : Expansion) → IsFirstIn no_others e
 first-of-all e = record { is = λ item first none. subst (λ o. o.behind < length e.top.work) (sym (others-none (length e.below.items))) (slice_get_within e.top.work 0 item first) }
-
--- where it stays, as it is seen once the token is put out
-pub stays-later : {s t : Sets} → Keeps s t → {stays : Cond} → IsCond s stays.0 → (item : Cond × Hidden) (was : Expansion) → IsCond s item.0.0 → IsCond s was.refusals.live.0
-    → Denotes s stays.0 (λ c. s.has item.0.0 c && s.has was.refusals.live.0 c) → Denotes t stays.0 (λ c. t.has item.0.0 c && t.has was.refusals.live.0 c)
-stays-later keeps own item was item_own live_own told = record {
-  own = keeps.own _ own;
-  at = λ c listed.
-      let before = IsConfig-kept keeps listed in
-      keeps.at _ c own before ∙ (told.at c before ∙ (λ i. sym (keeps.at item.0.0 c item_own before) i && sym (keeps.at was.refusals.live.0 c live_own before) i));
-}

@@ -16,7 +16,7 @@ pub mod Moved
 pub mod Answers
 pub mod Running
 pub mod OneLine
-pub mod Unchanged
+pub mod Restricted
 pub mod Waiting
 pub mod Alike
 pub mod FootprintSteps

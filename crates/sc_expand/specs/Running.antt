@@ -14,8 +14,8 @@ use Rattle.sc_expand.specs.Alike.{CallNextAlike, DefineNextAlike, IsAlikeCall, I
 use Rattle.sc_expand.specs.Having.{HasLast, HasMore, behind_at}
 use Rattle.sc_expand.specs.Machine.{IsHeldExpansion, Progress, at, at_call}
 use Rattle.sc_expand.specs.Seen.{Grows, IsHeldCall, Stores, provenance_of, seen_at}
+use Rattle.sc_expand.specs.Restricted.{IsPushed, IsRestricted}
 use Rattle.sc_expand.specs.Turn.{Turn}
-use Rattle.sc_expand.specs.Unchanged.{Drops, IsPushed, IsRestricted, IsUncalled, LooksUpNone, Passes}
 use Rattle.sc_expand.specs.Waiting.{KeepsFirst}
 use Rattle.sc_hoist.specs.Alike.{AreAlike}
 use Rattle.sc_model.specs.Sets.{Sets, IsConfig, IsNever}
@@ -117,6 +117,11 @@ pub record KeepsGone (s : Sets) (e after : Expansion) : Type 0 where
 
 -- ---- turns
 
+-- no call was met
+pub record IsUncalled (e : Expansion) : Type 0 where
+  pub below : e.below.items ≡ []
+  pub calls : e.top.calls.items ≡ []
+
 -- each configuration that was not refused is where it was, and so is what was put out
 pub record IsRested (old new : Stores) (e after : Expansion) : Type 0 where
   pub grows : Grows old new
@@ -130,7 +135,7 @@ pub record IsRested (old new : Stores) (e after : Expansion) : Type 0 where
   pub keeps : (files : ℕ) → IsHeldExpansion old files e → KeepsGone new.sets e after
   pub alike_left : (files : ℕ) (c d : List ℕ) → IsHeldExpansion old files e → IsConfig old.sets.arities c → IsConfig old.sets.arities d → IsAlikeExpansion old.sets c d no_others e
       → AreAlike old.sets c d e.rest → AreAlike new.sets c d after.rest
-  pub drops : (files : ℕ) → IsHeldExpansion old files e → IsUncalled e → Drops old.sets e after
+  pub uncalled : IsUncalled e → IsUncalled after
   pub alike : (files : ℕ) (c d : List ℕ) (others : Others) → IsHeldExpansion old files e → IsConfig old.sets.arities c → IsConfig old.sets.arities d
       → IsAlikeExpansion old.sets c d others e → IsAlikeExpansion new.sets c d others after
   pub rest : (files : ℕ) (c : List ℕ) → IsHeldExpansion old files e → IsConfig old.sets.arities c → old.sets.has e.refusals.live.0 c ≡ true
@@ -172,7 +177,6 @@ pub record IsTurned (files : List (List ℕ)) (macros : List ℕ → Macros) (ol
   pub which : (cond : Cond) → next_of e ≡ Some cond → (c : List ℕ) → takes c ≡ old.sets.has cond.0 c
   pub some : went ≡ true → ((c : List ℕ) → IsConfig old.sets.arities c → takes c ≡ true → old.sets.has e.refusals.live.0 c ≡ true → ⊥) → ⊥
   pub ended : went ≡ false → HasEnded after
-  pub passes : IsUncalled e → LooksUpNone old.sets old.names macros e → Passes new.sets e after
   pub alike : (c d : List ℕ) (others : Others) → IsConfig old.sets.arities c → IsConfig old.sets.arities d → DefineNextAlike old (macros c) (macros d) c e
       → CallNextAlike old (macros c) c d e → IsFirstIn others e → IsAlikeExpansion old.sets c d others e → IsAlikeExpansion new.sets c d others after
   pub rest : (c : List ℕ) → IsConfig old.sets.arities c → Rest old new e after c
@@ -218,7 +222,6 @@ pub record TakesFirst (files : List (List ℕ)) (macros : List ℕ → Macros) (
   pub keeps : KeepsNext old.sets new.sets was now true
   pub alike_left : (c d : List ℕ) → IsConfig old.sets.arities c → IsConfig old.sets.arities d → DefineNextAlike old (macros c) (macros d) c was → CallNextAlike old (macros c) c d was
       → IsAlikeExpansion old.sets c d no_others was → AreAlike old.sets c d was.rest → AreAlike new.sets c d now.rest
-  pub passes : IsUncalled was → LooksUpNone old.sets old.names macros was → Passes new.sets was now
   pub alike : (c d : List ℕ) (others : Others) → IsConfig old.sets.arities c → IsConfig old.sets.arities d → DefineNextAlike old (macros c) (macros d) c was
       → CallNextAlike old (macros c) c d was → IsFirstIn others was → IsAlikeExpansion old.sets c d others was → IsAlikeExpansion new.sets c d others now
   pub long : length was.top.work ≤ suc (length now.top.work)

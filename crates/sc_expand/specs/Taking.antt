@@ -25,7 +25,7 @@ use Rattle.sc_expand.specs.Machine.{IsHeldExpansion, KeepsLists, at}
 use Rattle.sc_expand.specs.Plain.{IsTemplate, gathered}
 use Rattle.sc_expand.specs.Seen.{AreHeld, Stores, provenance_of, seen_at, state_of}
 use Rattle.sc_expand.specs.Turn.{At, End, EndsBy, fails, waits, with_end}
-use Rattle.sc_expand.specs.Unchanged.{IsPushed, IsUndefined}
+use Rattle.sc_expand.specs.Restricted.{IsPushed}
 use Rattle.sc_expand.specs.Waiting.{KeepsFirst}
 use Rattle.sc_model.specs.Sets.{Sets, IsCond, IsConfig}
 use Rattle.sc_subst.specs.declared.hidden.Hidden.{Hidden}
@@ -161,7 +161,6 @@ pub record Takes (files : List (List ℕ)) (macros : List ℕ → Macros) (old s
       → table (text_of old.names head.token.spelling) ≡ macros c (text_of old.names head.token.spelling)
       → Comes (provenance_of files) table (seen_hidden old.names old.hides head) rest (at old was c) (step_at st now after c)
   pub others : (c : List ℕ) → IsConfig old.sets.arities c → old.sets.has cond c ≡ false → step_at st now after c ≡ untaken old was c
-  pub undefined : ((c : List ℕ) → IsConfig old.sets.arities c → old.sets.has cond c ≡ true → IsUndefined old.names (macros c) head.token) → (now ≡ was) × (after.made.items ≡ [])
   pub rest : (c : List ℕ) → IsConfig old.sets.arities c → HasTaken old.sets st.sets was.top.work now.top.work after.made.items c
   pub alike : (c d : List ℕ) (span : Span) → IsConfig old.sets.arities c → IsConfig old.sets.arities d → old.sets.has cond c ≡ old.sets.has cond d
       → (old.sets.has cond c ≡ true → is_looked_up (seen_hidden old.names old.hides head) ≡ true → IsFunctionLike (macros c (text_of old.names head.token.spelling)) → IsSameCall old.sets old.names c d was.top.work)

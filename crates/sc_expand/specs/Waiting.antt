@@ -3,7 +3,7 @@ use Rattle.std.specs.Prelude.{◌≡◌, ℕ, ◌&&◌, List, [], drop, slice_ge
 use Rattle.sc_base.specs.declared.id.Cond.{Cond}
 use Rattle.sc_expand.specs.declared.expansion.Expansion.{Expansion}
 use Rattle.sc_expand.specs.declared.frame.Enclosing.{Enclosing}
-use Rattle.sc_expand.specs.Unchanged.{IsPushed}
+use Rattle.sc_expand.specs.Restricted.{IsPushed}
 use Rattle.sc_model.specs.Sets.{Sets, Denotes}
 use Rattle.sc_subst.specs.declared.hidden.Hidden.{Hidden}
 

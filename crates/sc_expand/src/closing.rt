@@ -3,7 +3,7 @@ ghost use Rattle.std.specs.Prelude.{◌≡◌, ℕ, ◌<◌, ◌&&◌, not, List
 ghost use Rattle.sc_expand.specs.Closing.{IsClosed, is_several, unclosed_at};
 ghost use Rattle.sc_expand.specs.Having.{tokens_in};
 ghost use Rattle.sc_expand.specs.Seen.{failures_at};
-ghost use Rattle.sc_expand.specs.Unchanged.{IsRestricted};
+ghost use Rattle.sc_expand.specs.Restricted.{IsRestricted};
 ghost use Rattle.sc_guarded.specs.Items.{items_at};
 ghost use Rattle.sc_hoist.specs.Alike.{AreAlike, AreAlikeFaults, IsAlike};
 ghost use Rattle.sc_model.specs.Sets.{Denotes, IsCond, IsConfig, IsNever, Keeps};

@@ -6,7 +6,6 @@ ghost use Rattle.sc_expand.specs.Alike.{DefineTextAlike};
 ghost use Rattle.sc_hoist.specs.Alike.{AreAlike, AreAlikeFaults};
 ghost use Rattle.sc_expand.specs.Answers.{IsEmpty, IsExpanded, IsHeldAnswer};
 ghost use Rattle.sc_expand.specs.Footprints.{StopsAtName};
-ghost use Rattle.sc_expand.specs.Unchanged.{DefinesNone, IsRestricted};
 ghost use Rattle.sc_guarded.specs.Items.{items_at};
 ghost use Rattle.sc_model.specs.Growth.{Extends};
 ghost use Rattle.sc_model.specs.Sets.{IsConfig, IsCond, IsNever, Keeps, Sets};
@@ -47,8 +46,6 @@ pub fn expand<C: Conditions>(
         → IsEmpty (C.sets conds.new) e c) }
     ensures held { IfOk result (IsHeldAnswer (C.sets conds.new) names.new (length files.now)) }
     ensures some { IfOk result (λ e. All (λ item. IsNever (C.sets conds.new) item.0.0 → ⊥) e.list) }
-    ensures unchanged { IfOk result (λ e. DefinesNone (C.sets conds.old) names.old (macros_at (C.sets conds.old) names.old table.now) live.0 list.now
-        → IsRestricted (C.sets conds.new) live.0 list.now e.list × (e.faults.items ≡ [])) }
     ensures stops { IfErr result (StopsAtName (λ t. unhidden (seen names.old files.now t)) place_alone (macros_at (C.sets conds.old) names.old table.now)
         (C.sets conds.old) live.0 list.now limit) }
     ensures alike { IfOk result (λ e. (c d : List ℕ) → IsConfig (C.sets conds.old).arities c → IsConfig (C.sets conds.old).arities d

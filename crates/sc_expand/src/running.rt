@@ -7,7 +7,6 @@ ghost use Rattle.sc_expand.specs.Running.{IsDone, IsDropped, IsReady, IsRested, 
 ghost use Rattle.sc_expand.specs.Seen.{Grows, failures_at, provenance_of, seen_at, stores};
 ghost use Rattle.sc_expand.specs.CallStops.{StopsAt};
 ghost use Rattle.sc_expand.specs.Spans.{Becomes, StopsApart};
-ghost use Rattle.sc_expand.specs.Unchanged.{IsRestricted, LooksUpNone};
 ghost use Rattle.sc_hoist.specs.Alike.{AreAlike};
 ghost use Rattle.sc_model.specs.Growth.{Extends};
 ghost use Rattle.sc_model.specs.Sets.{IsCond, IsConfig, Keeps};
@@ -46,8 +45,6 @@ impl Expansion {
             (C.sets conds.new) (seen_hidden names.new self.new.sets) self.new.top.out self.new.rest) }
         ensures out { OnOk result (PutsOut (stores (C.sets conds.old) names.old self.old.sets)
             (stores (C.sets conds.new) names.new self.new.sets) self.old.refusals.live.0 self.old.top.out self.new.top.out) }
-        ensures unchanged { OnOk result (LooksUpNone (C.sets conds.old) names.old (macros_at (C.sets conds.old) names.old table.now) self.old
-            → IsRestricted (C.sets conds.new) self.old.refusals.live.0 self.old.top.work self.new.top.out × (self.new.refusals ≡ self.old.refusals)) }
         ensures stops { IfErr result (StopsApart (seen_hidden names.old self.old.sets) (provenance_of files.now)
             (macros_at (C.sets conds.old) names.old table.now) (C.sets conds.old)
             self.old.refusals.live.0 self.old.top.work limit) }

@@ -6,7 +6,6 @@ ghost use Rattle.sc_expand.specs.Running.{IsUntouched};
 ghost use Rattle.sc_expand.specs.Seen.{AreHeld, provenance_of, seen_at, stores};
 ghost use Rattle.sc_expand.specs.Settling.{IsHeldSettled, IsSettled};
 ghost use Rattle.sc_expand.specs.Spans.{StopsApart};
-ghost use Rattle.sc_expand.specs.Unchanged.{DefinesNone, IsRestricted};
 ghost use Rattle.sc_guarded.specs.Items.{items_at};
 ghost use Rattle.sc_hoist.specs.Alike.{AreAlike, AreAlikeFaults};
 ghost use Rattle.sc_model.specs.Growth.{Extends};
@@ -57,9 +56,6 @@ pub fn settle<C: Conditions>(
     ensures settles { IfOk result (IsSettled (stores (C.sets conds.old) names.old sets.old) (stores (C.sets conds.new) names.new sets.new) files.now
         (macros_at (C.sets conds.old) names.old table.now) list live.0) }
     ensures held { IfOk result (IsHeldSettled (stores (C.sets conds.new) names.new sets.new) (length files.now)) }
-    ensures unchanged { IfOk result (λ s. DefinesNone (C.sets conds.old) names.old (macros_at (C.sets conds.old) names.old table.now) live.0 (tokens_in list)
-        → IsRestricted (C.sets conds.new) live.0 (tokens_in list) s.done × ((s.held.items ≡ [])
-        × ((c : List ℕ) → IsConfig (C.sets conds.old).arities c → items_at (C.sets conds.new) s.rest c ≡ []))) }
     ensures stops { IfErr result (StopsApart (seen_hidden names.old sets.old) (provenance_of files.now) (macros_at (C.sets conds.old) names.old table.now)
         (C.sets conds.old) live.0 list limit) }
     ensures alike { IfOk result (λ s. (c d : List ℕ) → IsConfig (C.sets conds.old).arities c → IsConfig (C.sets conds.old).arities d

@@ -12,7 +12,7 @@ ghost use Rattle.sc_expand.specs.Running.{TakesFirst};
 ghost use Rattle.sc_expand.specs.Seen.{AreHeld, IsHeldToken, provenance_of, seen_at, stores};
 ghost use Rattle.sc_expand.specs.CallStops.{StopsAt};
 ghost use Rattle.sc_expand.specs.Taking.{AreTaken, HasPut, HasPutOut, IsBegun, IsFunction, IsHeldTaken, IsTaken, Takes, TakesPart, step_at, untaken};
-ghost use Rattle.sc_expand.specs.Unchanged.{IsPushed};
+ghost use Rattle.sc_expand.specs.Restricted.{IsPushed};
 ghost use Rattle.sc_guarded.specs.Items.{items_at};
 ghost use Rattle.sc_macro.specs.Seen.{IsHeldDefinition, seen_definition, text_of};
 ghost use Rattle.sc_model.specs.Growth.{Extends};
@@ -198,7 +198,6 @@ impl Expansion {
             → IsBegun (seen_hidden names.old self.old.sets head) (step_at (stores (C.sets conds.old) names.old self.old.sets) self.old taken.old c) }
         ensures done { OnOk result (AreTaken files.now (stores (C.sets conds.old) names.old self.old.sets) (stores (C.sets conds.new) names.new self.new.sets)
             self.old self.new taken.old taken.new head parts.now) }
-        ensures undefined { OnOk result (All (λ part. part.1 ≡ None) parts.now → (self.new ≡ self.old) × (taken.new.made ≡ taken.old.made)) }
         ensures stops { IfErr result (StopsAt (C.sets conds.old) names.old (λ c. TakesPart (C.sets conds.old) names.old parts.now c) self.old.top.work limit) }
 
         // at every outcome
@@ -235,7 +234,6 @@ impl Expansion {
             → IsBegun (seen_hidden names.old self.old.sets head) (step_at (stores (C.sets conds.old) names.old self.old.sets) self.old taken.old c) }
         ensures taken { OnOk result (IsTaken files.now (stores (C.sets conds.old) names.old self.old.sets) (stores (C.sets conds.new) names.new self.new.sets)
             self.old self.new taken.old taken.new head cond.0 (option_map (λ shared. seen_definition names.old shared.value) definition.now)) }
-        ensures undefined { OnOk result (definition.now ≡ None → (self.new ≡ self.old) × (taken.new.made ≡ taken.old.made)) }
         ensures stops { IfErr result (StopsAt (C.sets conds.old) names.old
             (λ c. ((C.sets conds.old).has cond.0 c ≡ true) × IsFunction names.old definition.now) self.old.top.work limit) }
 

@@ -1,7 +1,7 @@
 //! What configurations that wait keep of the whole list.
 ghost use Rattle.std.specs.Prelude.{◌≡◌, All, OnOk};
 ghost use Rattle.sc_expand.specs.Machine as machine;
-ghost use Rattle.sc_expand.specs.Unchanged.{IsPushed};
+ghost use Rattle.sc_expand.specs.Restricted.{IsPushed};
 ghost use Rattle.sc_expand.specs.Waiting.{DropsFirst, KeepsFirst};
 ghost use Rattle.sc_model.specs.Sets.{IsCond, Keeps};
 

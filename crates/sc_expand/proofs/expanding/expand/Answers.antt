@@ -6,8 +6,7 @@ use Rattle.sc_expand.proofs.Facts.{IsConfig-Keeps, IsConfig-kept, IsTable-Extend
 use Rattle.sc_expand.proofs.FootprintPlaces.{text-stops}
 use Rattle.sc_expand.proofs.PlainTables.{entry_names, within-table}
 use Rattle.sc_expand.proofs.SpanFootprints.{apart-stops}
-use Rattle.sc_expand.proofs.Terms.{AreAlike, Cond, DefinesNone, IsAlike, IsConfig, IsRestricted, Token, macros_at, provenance_of, seen_hidden}
-use Rattle.sc_expand.proofs.SettlingLemmas.{answer-unchanged, no-more-faults, none-more}
+use Rattle.sc_expand.proofs.Terms.{AreAlike, Cond, IsAlike, IsConfig, Token, macros_at, provenance_of, seen_hidden}
 use Rattle.sc_expand.proofs.expanding.expand.Goals as goal
 
 pub settle-requires-clause-held : goal.settle-requires-clause-held
@@ -50,12 +49,6 @@ returns g c =
           done-empty s new last n later hides now files macros config work settled list live more expanded h.tokens h.unhidden f.list f.faults first second is.held live_own listed is_closed is.settles other;
       held = answer-held new last later now (length files) settled live.0 more expanded second is.held f.list f.faults is_closed;
       some = answer-some new last later now (length files) settled live.0 more expanded second is.held f.list f.faults is_closed;
-      unchanged = λ none.
-          let was = is.unchanged (subst (DefinesNone s n macros live.0) (sym h.tokens) none) in
-          let same = subst (λ l. IsRestricted new live.0 l settled.done) h.tokens was.0 in
-          let nothing = λ (x : List ℕ) (listed : IsConfig new.arities x). was.1.1 x (IsConfig-kept first listed) in
-          answer-unchanged new last second settled more expanded list live f.list f.faults (none-more new last second settled.rest live.0 more is_closed nothing) (no-more-faults new last second settled.rest live.0 more is_closed nothing)
-          (first.own _ live_own) (λ k d h. first.own _ (c.requires.own k d h)) same was.1.0;
       stops = tt;
       alike = λ one two p q here there same defines.
           let looks = source-defines s n files hides one (macros one) (macros two) work list h.tokens h.unhidden defines in

@@ -1,6 +1,6 @@
 use Rattle.std.proofs.Common.{ap, length, subst, sym, ◌∙◌, ℕ, List, map}
 use Rattle.sc_expand.proofs.Ending.{bared}
-use Rattle.sc_expand.proofs.SettlingLemmas.{begun-alike, begun-held, settled-alike, settled-held, settled-is, looks-given, settled-unchanged}
+use Rattle.sc_expand.proofs.SettlingLemmas.{begun-alike, begun-held, settled-alike, settled-held, settled-is}
 use Rattle.sc_expand.proofs.TakingParts.{none-found}
 use Rattle.sc_expand.proofs.Terms.{AreHeld, Cond, DefineAlike, Expansion, Extends, IsCond, IsConfig, IsHeldSettled, IsSettled, IsUntouched, Refusals, items_at, macros_at, provenance_of, seen_at, seen_hidden, stores}
 use Rattle.sc_expand.proofs.settling.settle.Goals as goal
@@ -51,13 +51,6 @@ returns g c =
           (subst (λ h. IsSettled (stores s n h) new files macros list live.0 settled) into
           (settled-is old begun list live fresh e.live e.work new after settled f.done f.rest f.held files macros ran.out (λ config listed. (ran.done config listed).0) ran.segments));
       held = subst (λ h. IsHeldSettled (stores last later h) (length files) settled) back (settled-held old begun list live fresh e.live e.work new after settled f.done f.rest f.held (length files) ran.held ran.out);
-      unchanged = λ none.
-          let was = ran.unchanged (looks-given s n macros begun (map bared list) live e.live (ap (map bared) e.work) none) in
-          let same = settled-unchanged last begun after settled (map bared list) live e.live (ap (map bared) e.work) fresh.faults f.done f.held was in
-          let none_waits = λ (x : List ℕ) (listed : IsConfig s.arities x).
-          ap (λ (r : Refusals). last.has r.waiting.0 x) was.1
-          ∙ (ap (λ (k : Cond). last.has k.0 x) e.waiting ∙ (c.run-ran.ensures.grows.sets.at c.never-never.result.0 x c.never-never.ensures.own listed ∙ c.never-never.ensures.meaning.at x listed)) in
-          (same.0, (same.1, λ x listed. ap (λ l. items_at last l x) f.rest ∙ none-found (seen_hidden later after.sets) (items_at last after.rest x) ((ran.done x listed).1 (none_waits x listed))));
       stops = tt;
       alike = λ one two p q here there same defines.
           let looked = subst (λ h. DefineAlike (provenance_of files) (macros one) (macros two) (seen_at (stores s n h) list one)) (sym into) defines in

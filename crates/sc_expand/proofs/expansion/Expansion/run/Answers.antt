@@ -3,7 +3,7 @@ use Rattle.sc_expand.proofs.BetweenTurns.{turns-less, turns-rested, turns-start,
 use Rattle.sc_expand.proofs.Facts.{Keeps-trans}
 use Rattle.sc_expand.proofs.PhaseSegments.{run-segments}
 use Rattle.sc_expand.proofs.PlainTables.{entry_names, within-table}
-use Rattle.sc_expand.proofs.RunLemmas.{less-le, rested-le, running-done, running-is, running-out, running-unchanged}
+use Rattle.sc_expand.proofs.RunLemmas.{less-le, rested-le, running-done, running-is, running-out}
 use Rattle.sc_expand.proofs.SeenLemmas.{Grows-trans, IsTable-Grows}
 use Rattle.sc_expand.proofs.Terms.{Extends, macros_at, stores}
 use Rattle.sc_expand.proofs.expansion.Expansion.run.Goals as goal
@@ -48,7 +48,6 @@ returns-then-not-went g c =
       done = λ config listed. (running-done after.running ended config listed, after.running.rest config listed);
       segments = run-segments after.running after.phase ended;
       out = running-out after.running ended;
-      unchanged = running-unchanged after.running ended c.requires.untouched.out;
       stops = tt;
       alike = λ one two p q here defines were. let now = after.alike.at one two p q defines were in (now.alike, now.rest);
       grows = after.grows;

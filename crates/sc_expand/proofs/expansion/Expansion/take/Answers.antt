@@ -12,8 +12,7 @@ use Rattle.sc_expand.proofs.TakenLemmas.{long-put, taken-put}
 use Rattle.sc_expand.proofs.TakingSteps.{Ends}
 use Rattle.sc_expand.proofs.TakingTurns.{first-both, first-grew, first-item, first-own, first-ready, first-taken, first-token, put-ends, put-held, refused-out, step-Grows, take-first, take-turn, take-waits}
 use Rattle.sc_expand.proofs.Terms.{AreAlike, CallNextAlike, Cond, DefineNextAlike, Enclosing, Expansion, Extends, Grows, HasLast, HasPutOut, Hidden, IsAlikeEnclosing, IsAlikeExpansion, IsAlikeTaken, IsCond, IsConfig, IsFirstIn, IsFunctionLike, IsHeldExpansion, IsNever, IsPushed, KeepsLeft, Others, Span, TakesName, Turn, at, is_looked_up, macros_at, no_others, others_at, provenance_of, seen_at, seen_hidden, stores, text_of}
-use Rattle.sc_expand.proofs.UnchangedTaking.{first-undefined, stays-both, take-passes}
-use Rattle.sc_expand.proofs.WaitingTaking.{first-of-all, put-out-alike, put-out-keeps, put-out-left, stays-later}
+use Rattle.sc_expand.proofs.WaitingTaking.{first-of-all, put-out-alike, put-out-keeps, put-out-left}
 use Rattle.sc_expand.proofs.expansion.Expansion.take.Goals as goal
 
 pub take_under-requires : goal.take_under-requires
@@ -126,10 +125,6 @@ returns g c =
           taken.stays,
           subst (λ (z : (Cond × Hidden) × List (Cond × Hidden)). IsPushed s3 taken.stays z.0.1 z.1 next.top.out) (λ i. (some-same (sym c.requires.first ∙ is) i, told.lists.out i)) put.out,
         );
-        passes = λ uncalled looks.
-            let undefined = first-undefined known looks in
-            let same = told.undefined undefined in
-            take-passes s2 s3 was next item taken uncalled c.requires.first same.1 (stays-later later.sets told.taken.stays item was (before.sets.own _ (first-own (stores s0 n h) (length files) work item c.requires.first held.top.work)) (before.sets.own _ held.refusals.live) (stays-both known grows told same.0 undefined)) (subst (λ (e : Expansion). HasPutOut s2 s3 taken c.args.token e next) same.0 put);
         long = subst (λ l. length work ≤ suc (length l)) (sym put.work) (long-put work now.top.work taken.made.items long);
         rest = λ x listed.
             let own = All-append (λ (item : Cond × Hidden). IsCond s2 item.0.0) taken.made.items (drop 1 now.top.work) told.taken.made.own (All-drop (λ (item : Cond × Hidden). IsCond s2 item.0.0) 1 now.top.work told.held.top.work.own) in

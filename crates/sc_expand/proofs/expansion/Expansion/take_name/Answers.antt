@@ -1,16 +1,14 @@
-use Rattle.std.proofs.Common.{◌≡◌, ◌∙◌, ◌∷◌, ℕ, [], List, All, Global, None, Option, true, ap, map, not, subst, sym, if◌then◌else◌, refl}
+use Rattle.std.proofs.Common.{◌≡◌, ◌∙◌, ◌∷◌, ℕ, [], List, true, ap, map, subst, sym, if◌then◌else◌, refl}
 use Rattle.sc_expand.proofs.AlikeGathering.{each-same-call}
 use Rattle.sc_expand.proofs.AlikeLemmas.{alike-of, IsAlike-Keeps, IsAlikeIn-Keeps}
 use Rattle.sc_expand.proofs.AlikeTaking.{found-alike, same-defined}
-use Rattle.sc_expand.proofs.Facts.{All-nil, Extends-refl, IsConfig-Keeps, IsConfig-kept, Keeps-trans, and_parts, err_from_is_err_and}
+use Rattle.sc_expand.proofs.Facts.{All-nil, Extends-refl, IsConfig-Keeps, IsConfig-kept, Keeps-trans, err_from_is_err_and}
 use Rattle.sc_expand.proofs.SeenLemmas.{IsHeldExpansion-Grows, at-Grows}
 use Rattle.sc_expand.proofs.StopsLemmas.{stops-earlier}
 use Rattle.sc_expand.proofs.TakenLemmas.{taken-earlier}
 use Rattle.sc_expand.proofs.TakingParts.{found-function, none-found, one-found, seen_by, still-untaken}
-use Rattle.sc_expand.proofs.Terms.{AreAlike, At, Comes, Cond, Definition, Grows, Hidden, IsAlike, IsBegun, IsFunctionLike, Rc, TakesPart, Vec, hide_at, is_identifier_kind, is_looked_up, items_at, macros_at, provenance_of, seen_hidden, step_at, stores, text_of}
-use Rattle.sc_expand.proofs.UnchangedTaking.{found-none}
+use Rattle.sc_expand.proofs.Terms.{AreAlike, At, Comes, Cond, Grows, Hidden, IsAlike, IsBegun, IsFunctionLike, TakesPart, is_looked_up, items_at, macros_at, provenance_of, seen_hidden, step_at, stores, text_of}
 use Rattle.sc_expand.proofs.WorkListLemmas.{has_each-Keeps}
-use Rattle.sc_macro.specs.declared.definition.Definition as declared
 use Rattle.sc_expand.proofs.expansion.Expansion.take_name.Goals as goal
 
 pub take_parts-requires-clause-held : goal.take_parts-requires-clause-held
@@ -81,12 +79,6 @@ returns g c =
             let none = ap (λ l. map (seen_by n) (items_at s1 l x)) value ∙ (found.parts x listed ∙ ap (λ b. if b then macros_at s0 n c.args.table.now x text ∷ [] else []) no) in
             done.others x (IsConfig-Keeps keeps listed) (none-found (seen_by n) (items_at s1 c.deref.result.now x) none)
             ∙ still-untaken grows e (record { stays = c.never.result; made = c.new.result }) c.requires.held never c.new.ensures.items x listed;
-        undefined = λ undefined.
-            let macro : List ℕ → Option Definition = λ x. macros_at s0 n c.args.table.now x text in
-            let name = (and_parts (is_identifier_kind c.args.head.token.kind) (not (hide_at n h c.args.head.hide.0 text)) c.requires.name).0 in
-            let none = found-none s1 n (s0.has c.args.cond.0) macro c.in_ok-parts.parts.items (λ x listed. found.parts x (IsConfig-kept keeps listed)) (λ x listed has. undefined x (IsConfig-kept keeps listed) has name) found.some in
-            let same = told.undefined (subst (All (λ (part : Cond × Option (Rc declared.Definition Global)). part.1 ≡ None)) (sym value) none) in
-            (same.0, ap (λ (made : Vec (Cond × Hidden)). made.items) same.1 ∙ c.new.ensures.items);
         rest = λ x listed. taken-earlier (has_each-Keeps work x keeps c.requires.held.top.work.own listed) (done.rest x (IsConfig-Keeps keeps listed));
         alike = λ x y span p q same called defined alike.
             let own = c.requires.held.top.work.own in

@@ -1,4 +1,4 @@
-use Rattle.std.proofs.Common.{◌≡◌, ◌∙◌, ℕ, List, Some, ap, true, refl, sym, subst, IfSome, slice_get}
+use Rattle.std.proofs.Common.{◌≡◌, ◌∙◌, ℕ, List, Some, ap, true, sym, subst, IfSome, slice_get}
 use Rattle.sc_expand.proofs.AlikeTaking.{function-earlier}
 use Rattle.sc_expand.proofs.Facts.{IfSome_then, IsConfig-kept, IsHeldDefinition-Extends, Keeps-trans, err_from_is_err_and, slice_get-get_or, take_all}
 use Rattle.sc_expand.proofs.SeenLemmas.{Grows-refl, Grows-trans, seen_hidden-Grows, token-Grows}
@@ -38,10 +38,6 @@ loop-part-preserved g c =
     record { sets = ensures.keeps; names = ensures.names; hides = ensures.sets } in
     record {
       grows = Grows-trans was.grows step;
-      undefined = λ none.
-          let so_far = was.undefined none in
-          let here = ensures.undefined (ap (λ p. p.1) c.part-item.is ∙ none c.loop-part.part-index c.part-item.result c.loop-part-test.true) in
-          (here.0 ∙ so_far.0, here.1 ∙ so_far.1);
       done = part-taken c.args.parts.now c.loop-part.part-index c.part-item.result c.loop-part-test.true c.part-item.is was.grows c.requires.head c.requires.held.top.work
           (subst (λ p. IsCond s0 p.0.0) (sym c.part-item.is) (c.requires.own c.loop-part.part-index c.part-item.result c.loop-part-test.true))
           (subst (λ p. IfSome p.1 (λ shared. IsHeldDefinition c.args.names.now shared.value)) (sym c.part-item.is) (c.requires.definitions c.loop-part.part-index c.part-item.result c.loop-part-test.true))
@@ -57,7 +53,7 @@ take_part-requires-clause-definition g c =
 pub loop-part-init : goal.loop-part-init
 loop-part-init g c =
     let st = stores (g.C.Conditions.sets c.args.conds.now) c.args.names.now c.args.self.now.sets in
-    record { grows = Grows-refl st; undefined = λ none. (refl, refl); done = none-taken c.args.self.now c.args.taken.now c.args.head c.requires.held c.requires.taken }
+    record { grows = Grows-refl st; done = none-taken c.args.self.now c.args.taken.now c.args.head c.requires.held c.requires.taken }
 
 pub returns-in_err-take_part-clause-stops : goal.returns-in_err-take_part-clause-stops
 returns-in_err-take_part-clause-stops g c =

@@ -1,6 +1,5 @@
-use Rattle.std.proofs.Common.{◌≡◌, All, Global, None, Option, take}
-use Rattle.sc_expand.proofs.Terms.{AreTaken, Cond, Grows, Rc, stores}
-use Rattle.sc_macro.specs.declared.definition.Definition.{Definition}
+use Rattle.std.proofs.Common.{take}
+use Rattle.sc_expand.proofs.Terms.{AreTaken, Grows, stores}
 use Rattle.sc_expand.proofs.expansion.Expansion.take_parts.Given as goal
 
 abbrev pub invariant-loop-part : goal.invariant-loop-part
@@ -9,6 +8,5 @@ invariant-loop-part g l =
     let now = stores (g.C.Conditions.sets l.conds) l.names l.self.sets in
     record {
       grows : Grows old now;
-      undefined : All (λ (part : Cond × Option (Rc Definition Global)). part.1 ≡ None) l.parts → (l.self ≡ l.fn.self) × (l.taken.made ≡ l.fn.taken.made);
       done : AreTaken l.files old now l.fn.self l.self l.fn.taken l.taken l.head (take l.part-index l.parts);
     }

@@ -22,7 +22,6 @@ returns-clause-takes g c =
       lists = lists-same e;
       comes = λ x macros rest listed has work is. kept (case-hidden macros t rest hidden) (λ whole. last-hidden macros t rest hidden) (same-step refl (c.requires.begun x listed has).first has (ap (λ l. seen_at st l x) none));
       others = λ x listed no. same-step refl refl no (ap (λ l. seen_at st l x) none);
-      undefined = λ undefined. (refl, none);
       rest = λ x listed. taken-each refl;
       alike = λ x y span p q same called defined alike. (alike, record { stays = same; made = subst (AreAlike s x y) (sym none) (All-nil (λ (item : Cond × Hidden). IsAlike s x y item.0)) });
     }
