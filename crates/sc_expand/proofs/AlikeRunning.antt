@@ -1,16 +1,19 @@
 -- Configurations that are alike stay so through the turns of an expansion, where what one of them
 -- looks up is defined alike for both.
-use Rattle.std.proofs.Common.{◌≡◌, ℕ, Bool, true, List, [], ◌∷◌, Some, drop, length, map, slice_get, inl, inr, sym, ap, subst, ◌∙◌, if◌then◌else◌}
+use Rattle.std.proofs.Common.{◌≡◌, ◌&&◌, ℕ, Bool, true, List, [], ◌∷◌, Some, drop, length, map, slice_get, inl, inr, refl, sym, ap, subst, ◌∙◌, if◌then◌else◌}
 use Rattle.sc_expand.proofs.AlikeGathering.{same-call}
-use Rattle.sc_expand.proofs.AlikeLemmas.{all-of, others-none}
+use Rattle.sc_expand.proofs.AlikeLemmas.{All-at, AreAlike-Keeps, all-of, others-none}
 use Rattle.sc_expand.proofs.Facts.{All-nil, IsConfig-Keeps, cons-some}
+use Rattle.sc_expand.proofs.KeptLemmas.{rested-alike}
 use Rattle.sc_expand.proofs.MachineLemmas.{pending_at, progress-step, stands-cases, state-top}
 use Rattle.sc_expand.proofs.PlainAgreement.{AgreesFrom, agrees-move, agrees-name, agrees-start, agrees-under}
 use Rattle.sc_expand.proofs.PlainTurns.{under}
+use Rattle.sc_expand.proofs.PuttingOut.{pushed-alike}
 use Rattle.sc_expand.proofs.Rests.{first-is}
-use Rattle.sc_expand.proofs.RunLemmas.{IsRunning, rests-at, running-stands, start-state, turned-at}
-use Rattle.sc_expand.proofs.Terms.{AreAlike, At, CallNextAlike, Cond, DefineAlike, DefineNextAlike, Enclosing, Expansion, Grows, Hidden, IsAlike, IsAlikeExpansion, IsAlikeFrame, IsConfig, IsHeldExpansion, IsRested, IsSameCall, IsTurned, IsUntouched, IsWithin, Macros, Place, Progress, Provenance, Sets, Stands, State, Stores, calls_at, items_at, no_others, provenance_of, scanning, seen_at, seen_hidden, state_by, state_in, view_at}
+use Rattle.sc_expand.proofs.RunLemmas.{IsRunning, rests-at, running-apart, running-stands, start-state, turned-at}
+use Rattle.sc_expand.proofs.Terms.{AreAlike, At, CallNextAlike, Cond, DefineAlike, DefineNextAlike, Enclosing, Expansion, Grows, Hidden, IsAlike, IsAlikeExpansion, IsAlikeFrame, IsApart, IsConfig, IsHeldExpansion, IsRested, IsSameCall, IsTurned, IsUntouched, IsWithin, KeepsNext, Macros, Place, Progress, Provenance, Sets, Stands, State, Stores, bottom, bottom_by, calls_at, items_at, no_others, provenance_of, scanning, seen_at, seen_hidden, state_by, state_in, view_at}
 use Rattle.sc_expand.proofs.WaitingTaking.{first-of-all}
+use Rattle.sc_expand.specs.Running as running
 
 -- a configuration that has the first token has it before the others
 pub seen-first : (st : Stores) (c : List ℕ) (work : List (Cond × Hidden)) (item : Cond × Hidden) → slice_get work 0 ≡ Some item → st.sets.has item.0.0 c ≡ true
@@ -23,6 +26,24 @@ seen-first st c work item first has =
 
 whole-top : {s : Sets} {c d : List ℕ} (e : Expansion) → IsAlikeExpansion s c d no_others e → AreAlike s c d e.top.work
 whole-top {s} {c} {d} e alike = all-of s c d e.top.work (subst (λ o. IsAlikeFrame s c d o e.top) (others-none (length e.below.items)) alike.top).work
+
+-- all of the list below all others
+bottom-alike : {s : Sets} {c d : List ℕ} (e : Expansion) → IsAlikeExpansion s c d no_others e → AreAlike s c d (bottom e).work
+bottom-alike {s} {c} {d} e alike = by e.below.items refl
+  where
+    by : (bs : List Enclosing) → e.below.items ≡ bs → AreAlike s c d (bottom_by bs e.top).work
+    by [] is = whole-top e alike
+    by (b ∷ bs) is = all-of s c d b.frame.work (alike.below 0 b (ap (λ l. slice_get l 0) is)).frame.work
+
+-- what a turn keeps of it
+alike-kept : {old new : Stores} {files : ℕ} {e after : Expansion} {went : Bool} {c d : List ℕ} → Grows old new → KeepsNext old.sets new.sets e after went → IsHeldExpansion old files e
+    → IsConfig old.sets.arities c → IsConfig old.sets.arities d → IsApart old.sets e c → IsApart old.sets e d → AreAlike old.sets c d e.top.work → IsAlike new.sets c d after.refusals.waiting → AreAlike old.sets c d e.rest
+    → AreAlike new.sets c d after.rest
+alike-kept {new = new} {e = e} {c = c} {d = d} grows (running.nothing_kept empty is) held p q apart other list waiting all =
+    subst (AreAlike new.sets c d) (sym is) (AreAlike-Keeps grows.sets p q e.rest held.rest.own all)
+alike-kept {old} {new} {e = e} {c = c} {d = d} grows (running.first_kept item cond whole none first put has) held p q apart other list waiting all =
+    let same : IsAlike old.sets c d item.0 = All-at (λ (x : Cond × Hidden). IsAlike old.sets c d x.0) e.top.work 0 item first list in
+    pushed-alike new.sets c d put (has c p apart ∙ ((λ i. same i && waiting i) ∙ sym (has d q other))) (AreAlike-Keeps grows.sets p q e.rest held.rest.own all)
 
 -- the first tokens are called alike, or neither is
 whole-call : {s : Sets} {names : List (List ℕ)} {c d : List ℕ} (e : Expansion) → IsAlikeExpansion s c d no_others e → IsSameCall s names c d e.top.work
@@ -93,7 +114,7 @@ module _ (files : List (List ℕ)) (macros : List ℕ → Macros) where
           let a = stay.at c d p q defines alike in
           record {
             alike = rested.alike (length files) c d no_others r.held (IsConfig-Keeps grows.sets p) (IsConfig-Keeps grows.sets q) a.alike;
-            rest = rested.alike_left (length files) c d r.held (IsConfig-Keeps grows.sets p) (IsConfig-Keeps grows.sets q) a.alike a.rest;
+            rest = rested-alike r.held rested (IsConfig-Keeps grows.sets p) (IsConfig-Keeps grows.sets q) (bottom-alike e a.alike) a.alike.refusals.waiting a.rest;
             agrees = agrees-progress (provenance_of files) (macros c) (macros d) now new c e.below.items after.below.items (rests-at grows r began new after rested c p) (running-stands grows r c p) a.agrees;
           };
     }
@@ -105,9 +126,12 @@ module _ (files : List (List ℕ)) (macros : List ℕ → Macros) where
           let next = agrees-next (provenance_of files) (macros c) (macros d) names (within c) now c e (running-stands grows r c p) a.agrees in
           let defined = subst (λ m. DefineNextAlike now m (other d) c e) (sym (same c p)) (subst (λ m. DefineNextAlike now (macros c) m c e) (sym (same d q)) next) in
           let called : CallNextAlike now (other c) c d e = record { same = λ takes. whole-call e a.alike } in
+          let p1 = IsConfig-Keeps grows.sets p in
+          let q1 = IsConfig-Keeps grows.sets q in
+          let later = turned.alike c d no_others p1 q1 defined called (first-of-all e) a.alike in
           record {
-            alike = turned.alike c d no_others (IsConfig-Keeps grows.sets p) (IsConfig-Keeps grows.sets q) defined called (first-of-all e) a.alike;
-            rest = turned.alike_left c d (IsConfig-Keeps grows.sets p) (IsConfig-Keeps grows.sets q) defined called a.alike a.rest;
+            alike = later;
+            rest = alike-kept turned.grows turned.keeps r.held p1 q1 (running-apart grows r c p) (running-apart grows r d q) (whole-top e a.alike) later.refusals.waiting a.rest;
             agrees = agrees-progress (provenance_of files) (macros c) (macros d) now new c e.below.items after.below.items (turned-at grows r began new after other same turned c p) (running-stands grows r c p) a.agrees;
           };
     }

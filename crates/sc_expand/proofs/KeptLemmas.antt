@@ -1,8 +1,12 @@
 -- What those that wait keep of first tokens of the whole list that are gone.
-use Rattle.std.proofs.Common.{◌≡◌, ℕ, List, [], ◌∷◌, ◌++◌, All, append_assoc, append-nil, slice_get, Some, sym, ap, subst, refl, ◌∙◌}
+use Rattle.std.proofs.Common.{◌≡◌, ℕ, Bool, true, false, List, [], ◌∷◌, ◌++◌, All, append_assoc, append-nil, slice_get, Some, sym, ap, subst, refl, ◌∙◌, map, if◌then◌else◌}
+use Rattle.sc_expand.proofs.AlikeLemmas.{AreAlike-Keeps, IsAlike-Keeps}
 use Rattle.sc_expand.proofs.BottomLemmas.{bottom-frame}
-use Rattle.sc_expand.proofs.Terms.{Cond, Enclosing, Expansion, Grows, Hidden, IsCond, IsHeldExpansion, IsPushed, IsRestricted, Keeps, KeepsFirst, KeepsGone, Sets, Stores, bottom, bottom_by}
-use Rattle.sc_expand.proofs.RestrictedLists.{All-before, restricted-Keeps, restricted-append}
+use Rattle.sc_expand.proofs.Facts.{All-append, IsConfig-Keeps}
+use Rattle.sc_expand.proofs.PuttingOut.{some-Keeps}
+use Rattle.sc_expand.proofs.Terms.{AreAlike, Cond, Enclosing, Expansion, Grows, Hidden, IsAlike, IsCond, IsConfig, IsHeldExpansion, IsNever, IsPushed, IsRested, IsRestricted, Keeps, KeepsFirst, KeepsGone, KeepsLeft, Sets, Stores, bottom, bottom_by, items_at, put_out, seen_at, seen_hidden}
+use Rattle.sc_expand.proofs.RestrictedLists.{All-before, restricted-Keeps, restricted-alike, restricted-append, restricted-items, restricted-some}
+use Rattle.sc_expand.proofs.SeenLemmas.{seen_at-Grows, seen_at-append}
 use Rattle.sc_expand.specs.Restricted as restricted
 use Rattle.sc_expand.specs.Waiting as waiting
 
@@ -67,3 +71,47 @@ gone-then {old} {mid} {new} one two three grows keeps held refusals a b =
           (restricted-Keeps keeps one.refusals.waiting.0 (grows.sets.own one.refusals.waiting.0 held.refusals.waiting) a.gone a.kept (All-before Own a.gone (bottom two).work (subst (All Own) a.work owned)) a.is)
           (subst (λ r. IsRestricted new r.waiting.0 b.gone b.kept) refusals b.is);
     }
+
+-- ---- what waits, where each configuration that was not refused rests
+
+module _ {old new : Stores} {files : ℕ} {e after : Expansion} (held : IsHeldExpansion old files e) (rested : IsRested old new e after) where
+  abbrev gone : KeepsGone new.sets e after
+  gone = rested.keeps files held
+
+  -- of what is gone those that wait keep all, and others nothing
+  kept-is : (c : List ℕ) → IsConfig old.sets.arities c → (b : Bool) → new.sets.has after.refusals.waiting.0 c ≡ b → seen_at new gone.kept c ≡ seen_at new (if b then gone.gone else []) c
+  kept-is c listed b is =
+      ap (map (seen_hidden new.names new.hides)) (restricted-items new.sets e.refusals.waiting.0 gone.is c (IsConfig-Keeps rested.grows.sets listed)
+      ∙ (ap (λ h. if h then items_at new.sets gone.gone c else []) (ap (λ r. new.sets.has r.waiting.0 c) (sym rested.refusals) ∙ is) ∙ by b))
+    where
+      by : (b : Bool) → (if b then items_at new.sets gone.gone c else []) ≡ items_at new.sets (if b then gone.gone else []) c
+      by true = refl
+      by false = refl
+
+  rest-is : (c : List ℕ) → IsConfig old.sets.arities c → (b : Bool) → new.sets.has after.refusals.waiting.0 c ≡ b → seen_at new after.rest c ≡ seen_at old e.rest c ++ seen_at new (if b then gone.gone else []) c
+  rest-is c listed b is =
+      ap (λ l. seen_at new l c) gone.rest ∙ (seen_at-append new e.rest gone.kept c ∙ (λ i. seen_at-Grows rested.grows c listed e.rest held.rest i ++ kept-is c listed b is i))
+
+  pub rested-left : KeepsLeft old new e after
+  rested-left = record {
+    left = λ c listed apart waits.
+        let were = seen_at-Grows rested.grows c listed (bottom e).work (bottom-frame e held).work in
+        ap (λ l. l ++ seen_at new (bottom after).work c) (rest-is c listed true waits)
+        ∙ (append_assoc (seen_at old e.rest c) (seen_at new gone.gone c) (seen_at new (bottom after).work c)
+        ∙ ap (λ l. seen_at old e.rest c ++ l) (sym (ap (λ l. seen_at new l c) gone.work ∙ seen_at-append new gone.gone (bottom after).work c) ∙ were));
+    put = λ c listed apart waits. ap (λ l. seen_at new l c) rested.out ∙ seen_at-Grows rested.grows c listed (put_out e) (bottom-frame e held).out;
+    others = λ c listed lacks. rest-is c listed false lacks ∙ append-nil (seen_at old e.rest c);
+    some =
+        let Some : Cond × Hidden → Type 0 = λ item. IsNever new.sets item.0.0 → ⊥ in
+        λ all. subst (All Some) (sym gone.rest) (All-append Some e.rest gone.kept (some-Keeps rested.grows.sets e.rest held.rest.own all) (restricted-some new.sets e.refusals.waiting.0 gone.is));
+  }
+
+  -- where all of the whole list is alike
+  pub rested-alike : {c d : List ℕ} → IsConfig old.sets.arities c → IsConfig old.sets.arities d → AreAlike old.sets c d (bottom e).work → IsAlike old.sets c d e.refusals.waiting → AreAlike old.sets c d e.rest
+      → AreAlike new.sets c d after.rest
+  rested-alike {c} {d} p q list waiting all =
+      let Same : Cond × Hidden → Type 0 = λ item. IsAlike new.sets c d item.0 in
+      let keeps = rested.grows.sets in
+      let first = All-before Same gone.gone (bottom after).work (subst (All Same) gone.work (AreAlike-Keeps keeps p q (bottom e).work (bottom-frame e held).work.own list)) in
+      subst (All Same) (sym gone.rest) (All-append Same e.rest gone.kept (AreAlike-Keeps keeps p q e.rest held.rest.own all)
+      (restricted-alike new.sets e.refusals.waiting.0 gone.is c d (IsConfig-Keeps keeps p) (IsConfig-Keeps keeps q) (IsAlike-Keeps keeps p q held.refusals.waiting waiting) first))

@@ -8,9 +8,9 @@ use Rattle.sc_expand.proofs.KeptLemmas.{gone-first, gone-nothing, gone-then}
 use Rattle.sc_expand.proofs.MachineCalls.{calls_at-append, leave-other}
 use Rattle.sc_expand.proofs.MachineLemmas.{Stands-Grows, state_in-Grows}
 use Rattle.sc_expand.proofs.SeenLemmas.{AreHeld-tail, Grows-refl, Grows-trans, IsHeldExpansion-Grows, at-Grows}
-use Rattle.sc_expand.proofs.Terms.{AreAlike, AreAlikeRefusals, AreHeld, At, Call, Cond, Denotes, Enclosing, EndsBy, Expansion, Frame, Grows, Hidden, IsAlike, IsAlikeCall, IsAlikeEnclosing, IsAlikeFrame, IsCond, IsConfig, IsDropped, IsHeldCall, IsHeldEnclosing, IsHeldExpansion, IsHeldFrame, IsHeldRefusals, IsNever, IsReady, IsRested, Keeps, KeepsFirst, Macros, Moves, Place, Progress, Provenance, Sets, Stands, Stores, Waits, at, behind_at, bottom, bottom_by, calls_at, ends, ends_at, gone, items_at, last_of, next_by, next_of, no_others, others_at, put_by, rests, seen_at, seen_hidden, state_in, steps, view_at, waiting_at, with_end}
+use Rattle.sc_expand.proofs.Terms.{AreAlike, AreAlikeRefusals, AreHeld, At, Call, Cond, Denotes, Enclosing, EndsBy, Expansion, Frame, Grows, Hidden, IsAlike, IsAlikeCall, IsAlikeEnclosing, IsAlikeFrame, IsCond, IsConfig, IsDropped, IsHeldCall, IsHeldEnclosing, IsHeldExpansion, IsHeldFrame, IsHeldRefusals, IsNever, IsReady, IsRested, Keeps, KeepsFirst, Macros, Moves, Place, Progress, Provenance, Sets, Stands, Stores, Waits, at, behind_at, bottom, bottom_by, calls_at, ends, ends_at, gone, items_at, last_of, next_by, next_of, others_at, put_by, rests, seen_at, seen_hidden, state_in, steps, view_at, waiting_at, with_end}
 use Rattle.sc_expand.proofs.RestrictedLists.{never-empty, not-both}
-use Rattle.sc_expand.proofs.WaitingLemmas.{dropped-alike, dropped-left, kept-held, kept-later, left-then, rest-alike, same-left}
+use Rattle.sc_expand.proofs.WaitingLemmas.{kept-held, kept-later}
 use Rattle.sc_expand.specs.Running as running
 use Rattle.sc_expand.specs.Waiting as waiting
 
@@ -89,9 +89,7 @@ module _ {old new : Stores} (grows : Grows old new) (e : Expansion) where
           subst (Stands new c e.below.items) (sym view) (Stands-Grows grows files c listed held.below stands),
           sym (ap (λ v. state_in new e.below.items v c) view ∙ state_in-Grows grows files c listed e.below.items (view_at old e.top c) held.below),
         ));
-    left = λ files held. same-left grows e e held refl refl refl;
     keeps = λ files held. gone-nothing new.sets e e refl refl;
-    alike_left = λ files c d held p q alike all. rest-alike e grows held refl p q all;
     uncalled = λ uncalled. uncalled;
     alike = λ files c d others held p q alike. IsAlikeExpansion-Keeps grows.sets p q others e held alike;
     rest = λ files c held p live. behind-Keeps grows.sets p (bottom e).work (bottom-held e held);
@@ -145,8 +143,6 @@ module _ (st : Stores) (e after : Expansion) (refusals : after.refusals ≡ e.re
         let first = ap (λ l. seen_at st l c) out in
         let third = ap (λ l. calls_at st l c) calls in
         λ i. record { out = first i; work = fewer i; calls = third i }));
-    alike_left = λ files c d held p q alike all. dropped-alike st e after held below kept_first p q alike all;
-    left = λ files held. dropped-left st (Keeps-refl st.sets) e after held refusals below out (ap (drop 1) (sym work)) kept_first;
     keeps = λ files held. gone-first st.sets e after item work below kept_first;
     uncalled = λ uncalled. record { below = ap (λ b. b.items) below ∙ uncalled.below; calls = calls ∙ uncalled.calls };
     alike = λ files c d others held p q alike.
@@ -191,9 +187,6 @@ module _ (st : Stores) (e after : Expansion) (refusals : after.refusals ≡ e.re
         let first = ap (λ l. seen_at st l c) out in
         let second = ap (λ l. seen_at st l c) work in
         λ i. record { out = first i; work = second i; calls = fewer i }));
-    alike_left = λ files c d held p q alike all. rest-alike after (Grows-refl st) held rest p q all;
-    left = λ files held. same-left (Grows-refl st) e after held rest (ap (λ b. (bottom_by b.items after.top).work) below ∙ bottom-same e.below.items after.top e.top work)
-        (ap (λ b. put_by b.items after.top) below ∙ put-same e.below.items after.top e.top out);
     keeps = λ files held. gone-nothing st.sets e after (ap (λ b. (bottom_by b.items after.top).work) below ∙ bottom-same e.below.items after.top e.top work) rest;
     uncalled = λ uncalled. absurd (never-empty after.top.calls.items k (sym calls ∙ uncalled.calls));
     alike = λ files c d others held p q alike.
@@ -230,10 +223,6 @@ module _ (st : Stores) (e after : Expansion) (refusals : after.refusals ≡ e.re
           subst (λ t. Stands st c after.below.items (view_at st t c)) (sym top) r.0,
           ap (λ bs. state_in st bs (view_at st e.top c) c) below ∙ (r.1 ∙ ap (λ t. state_in st after.below.items (view_at st t c) c) (sym top)),
         ));
-    alike_left = λ files c d held p q alike all. rest-alike after (Grows-refl st) held rest p q all;
-    left = λ files held. same-left (Grows-refl st) e after held rest
-        (ap (λ t. (bottom_by after.below.items t).work) top ∙ (sym (ap (λ f. f.work) (bottom-less after.below.items o e.top)) ∙ sym (ap (λ bs. (bottom_by bs e.top).work) below)))
-        (ap (λ t. put_by after.below.items t) top ∙ (sym (put-less after.below.items o e.top) ∙ sym (ap (λ bs. put_by bs e.top) below)));
     keeps = λ files held.
         gone-nothing st.sets e after
         (ap (λ t. (bottom_by after.below.items t).work) top ∙ (sym (ap (λ f. f.work) (bottom-less after.below.items o e.top)) ∙ sym (ap (λ bs. (bottom_by bs e.top).work) below))) rest;
@@ -266,8 +255,6 @@ rested-then {old} {mid} {new} {one} {two} {three} a b = record {
   held = λ files held. b.held files (a.held files held);
   progress = λ files provenance macros c held listed.
       progress-then false false refl (a.progress files provenance macros c held listed) (b.progress files provenance macros c (a.held files held) (IsConfig-Keeps a.grows.sets listed));
-  alike_left = λ files c d held p q alike all. b.alike_left files c d (a.held files held) (IsConfig-Keeps a.grows.sets p) (IsConfig-Keeps a.grows.sets q) (a.alike files c d no_others held p q alike) (a.alike_left files c d held p q alike all);
-  left = λ files held. left-then one two three a.grows b.grows held (a.held files held) a.refusals b.refusals (a.left files held) (b.left files (a.held files held));
   keeps = λ files held. gone-then one two three a.grows b.grows.sets held a.refusals (a.keeps files held) (b.keeps files (a.held files held));
   uncalled = λ uncalled. b.uncalled (a.uncalled uncalled);
   alike = λ files c d others held p q alike. b.alike files c d others (a.held files held) (IsConfig-Keeps a.grows.sets p) (IsConfig-Keeps a.grows.sets q) (a.alike files c d others held p q alike);

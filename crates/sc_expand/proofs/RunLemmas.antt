@@ -1,11 +1,12 @@
 -- What holds at each turn of the loop, from the first to the last.
 use Rattle.std.proofs.Common.{◌≡◌, ◌⊎◌, inl, inr, ℕ, ◌<◌, ◌≤◌, Bool, true, false, true≢false, List, [], ◌∷◌, ◌++◌, All, append-nil, length, refl, sym, ap, subst, ◌∙◌, arith, if◌then◌else◌}
 use Rattle.sc_expand.proofs.Facts.{All-nil, IsConfig-Keeps, IsConfig-kept, cases_lt}
+use Rattle.sc_expand.proofs.KeptLemmas.{rested-left}
 use Rattle.sc_expand.proofs.MachineLemmas as told
 use Rattle.sc_expand.proofs.MachineLemmas.{IsTold, progress-step, told-progress}
 use Rattle.sc_expand.proofs.PlainSettles.{Opens, opens-end, opens-start}
 use Rattle.sc_expand.proofs.PlainTurns.{IsTurn, steps_left, turn-le, turn-less}
-use Rattle.sc_expand.proofs.SeenLemmas.{AreHeld-Grows, Grows-refl}
+use Rattle.sc_expand.proofs.SeenLemmas.{Grows-refl}
 use Rattle.sc_expand.proofs.Terms.{Cond, Enclosing, Expansion, Frame, Grows, HasEnded, Hidden, HiddenToken, IsApart, IsConfig, IsDone, IsExpansion, IsHeldExpansion, IsNever, IsRested, IsTurned, IsUntouched, IsWithin, KeepsLeft, Macros, Place, Progress, Provenance, PutsOut, Settles, Stands, Stores, Waiting, at, bottom, bottom_by, calls_at, ends, ends_at, expanding, failures_at, gone, left_at, on_top, provenance_of, put_by, put_out, rests, scanning, seen_at, state_by, state_in, state_of, steps, view_at, waiting_at}
 use Rattle.sc_expand.proofs.Turning.{puts-nothing, puts-same}
 use Rattle.sc_expand.specs.Running as running
@@ -208,7 +209,7 @@ module _ {files : List (List ℕ)} {macros : List ℕ → Macros} {old now : Sto
 
     pub running-rested : IsRunning files macros old new was after
     running-rested = running-later grows r new after (λ c. false) rests-at (rested.held (length files) r.held) (puts-same rested.grows e.refusals.live.0 e after r.held rested.out)
-        (rested.left (length files) r.held)
+        (rested-left r.held rested)
 
     pub rested-le : (names : List (List ℕ)) (within : (c : List ℕ) → IsWithin names (macros c)) → steps_in old.sets.arities files macros names within new after ≤ steps_in old.sets.arities files macros names within now e
     rested-le names within = running-le grows r new after (λ c. false) rests-at names within

@@ -9,9 +9,9 @@ use Rattle.sc_expand.proofs.MachineLeaves.{left-held, left-progress}
 use Rattle.sc_expand.proofs.MachineLemmas.{stands-cases, turn-progress}
 use Rattle.sc_expand.proofs.Rests.{next-argument, next-call, put-less, put-same, some-same}
 use Rattle.sc_expand.proofs.SeenLemmas.{Grows-refl, seen_at-Grows}
-use Rattle.sc_expand.proofs.Terms.{AreAlike, AreHeld, Call, CallNextAlike, Cond, DefineNextAlike, Enclosing, Expansion, Frame, Grows, HasLast, HasMore, Hidden, IsAlikeCall, IsAlikeEnclosing, IsAlikeExpansion, IsAlikeFrame, IsConfig, IsExpansion, IsFirstIn, IsHeldCall, IsHeldEnclosing, IsHeldExpansion, IsHeldFrame, IsResumed, Macros, Others, Progress, Sets, Stands, Stores, TakesName, Vec, View, at, at_call, calls_at, no_others, others_at, provenance_of, rests, seen_at, state_in, view_at, waiting_at, with_call}
+use Rattle.sc_expand.proofs.Terms.{AreHeld, Call, CallNextAlike, Cond, DefineNextAlike, Enclosing, Expansion, Frame, Grows, HasLast, HasMore, Hidden, IsAlikeCall, IsAlikeEnclosing, IsAlikeExpansion, IsAlikeFrame, IsConfig, IsExpansion, IsFirstIn, IsHeldCall, IsHeldEnclosing, IsHeldExpansion, IsHeldFrame, IsResumed, Macros, Others, Progress, Sets, Stands, Stores, TakesName, Vec, View, at, at_call, calls_at, others_at, provenance_of, rests, seen_at, state_in, view_at, waiting_at, with_call}
 use Rattle.sc_expand.proofs.RestrictedLists.{never-empty}
-use Rattle.sc_expand.proofs.WaitingLemmas.{rest-alike, same-left}
+use Rattle.sc_expand.proofs.WaitingLemmas.{same-left}
 use Rattle.sc_expand.specs.Running as running
 use Rattle.sc_expand.specs.Running.{GoesOn, IsAsLong, IsReady, IsTurned, KeepsLeft, KeepsNext, Pushes, PutsOut, Rest, TakesFirst, bottom, bottom_by, last_of, next_by, next_of, put_by, put_out}
 use Rattle.sc_expand.specs.Restricted.{IsPushed}
@@ -232,11 +232,11 @@ keeps-over e after calls none (running.first_kept item cond whole empty first pu
 module _ {old new : Stores} (grows : Grows old new) (files : List (List ℕ)) (macros : List ℕ → Macros) (e after : Expansion) (is : IsExpansion old (length files) e) where
   -- a turn of the configurations that have what is next
   next-turn : (next : Cond) → next_of e ≡ Some next → IsReady old.sets e → IsHeldExpansion new (length files) after → PutsOut old new e.refusals.live.0 (put_out e) (put_out after) → Pushes new.sets e after true → KeepsLeft old new e after → KeepsNext old.sets new.sets e after true
-      → ((c d : List ℕ) → IsConfig old.sets.arities c → IsConfig old.sets.arities d → DefineNextAlike old (macros c) (macros d) c e → CallNextAlike old (macros c) c d e → IsAlikeExpansion old.sets c d no_others e → AreAlike old.sets c d e.rest → AreAlike new.sets c d after.rest) → IsAsLong e after → ((c : List ℕ) → IsConfig old.sets.arities c → Rest old new e after c)
+      → IsAsLong e after → ((c : List ℕ) → IsConfig old.sets.arities c → Rest old new e after c)
       → ((c d : List ℕ) (others : Others) → IsConfig old.sets.arities c → IsConfig old.sets.arities d → DefineNextAlike old (macros c) (macros d) c e → CallNextAlike old (macros c) c d e → IsFirstIn others e
       → IsAlikeExpansion old.sets c d others e → IsAlikeExpansion new.sets c d others after)
       → ((c : List ℕ) → IsConfig old.sets.arities c → Progress (provenance_of files) (macros c) old new c e.below.items after.below.items (at old e c) (at new after c) (old.sets.has next.0 c)) → IsTurned files macros old new e after true
-  next-turn next here ready held out pushes left keeps alike_left long rest alike progress = record {
+  next-turn next here ready held out pushes left keeps long rest alike progress = record {
     grows = grows;
     held = held;
     out = out;
@@ -245,7 +245,6 @@ module _ {old new : Stores} (grows : Grows old new) (files : List (List ℕ)) (m
     progress = progress;
     left = left;
     keeps = keeps;
-    alike_left = alike_left;
     long = long;
     which = λ cond is c. ap (λ (k : Cond). old.sets.has k.0 c) (some-same (sym here ∙ is));
     some = λ went. ready.some next here;
@@ -264,7 +263,6 @@ module _ {old new : Stores} (grows : Grows old new) (files : List (List ℕ)) (m
       (running.nothing out)
       (left-over e after calls (Some call) popped (gone.left (length files) (popped-held e is.held calls (Some call) popped) (call-held e is.held calls call popped)))
       (running.nothing_kept (λ whole none. absurd (never-empty calls.items call (sym popped ∙ none))) gone.waits)
-      (λ c d p q defines same inside all. rest-alike after grows is.held gone.waits p q all)
       (running.all (omega (arith, gone.long, ap length whole)))
       (λ c listed. running.put (subst (λ l. HasMore old.sets new.sets l (bottom after).work c) whole (gone.rest c listed)))
       (λ c d others p q defines same inside both. gone.alike c d others p q (call-alike e both calls call popped) (popped-alike e both calls (Some call) popped))
@@ -277,7 +275,6 @@ module _ {old new : Stores} (grows : Grows old new) (files : List (List ℕ)) (m
       (push-taken grows e after taken.below none.before item first taken.pushes)
       (left-over e after calls None (none-split none) taken.left)
       (keeps-over e after calls none taken.keeps)
-      (λ c d p q defines same inside all. taken.alike_left c d p q (defines-next e calls none defines) (calls-next e calls none same) (none-alike e inside calls none) all)
       (long-taken grows e after taken.below none.before item first taken.long)
       (λ c listed. rest-taken grows e after taken.below none.before item first is.held listed (taken.rest c listed))
       (λ c d others p q defines same inside both. taken.alike c d others p q (defines-next e calls none defines) (calls-next e calls none same) (first-next e calls none inside) (none-alike e both calls none))
@@ -311,7 +308,6 @@ module _ (st : Stores) (files : List (List ℕ)) (macros : List ℕ → Macros) 
         (subst (λ bs. Progress (provenance_of files) (macros c) st st c bs below.items (at st e c) (at st after c) (st.sets.has o.call.cond.0 c)) (sym less)
         (left-progress (provenance_of files) (macros c) st c below.items o e after resumed work out refusals empty none.before waiting));
     keeps = running.nothing_kept (λ whole uncalled. empty) waiting;
-    alike_left = λ c d p q defines same inside all. rest-alike after (Grows-refl st) is.held waiting p q all;
     left = same-left (Grows-refl st) e after is.held waiting (left-bottom below o less work later) (left-out below o less out later);
     long = long-same st e after (left-bottom below o less work later);
     which = λ cond is c. ap (λ (k : Cond). st.sets.has k.0 c) (some-same (sym (next-argument e below.items o none.before empty less) ∙ is));
@@ -344,7 +340,6 @@ module _ (st : Stores) (files : List (List ℕ)) (macros : List ℕ → Macros) 
           ap (λ v. state_in st e.below.items v c) (sym view) ∙ ap (λ bs. state_in st bs (view_at st (record e.top { calls = calls }) c) c) (sym lists),
         ));
     keeps = running.nothing_kept (λ whole uncalled. empty) refl;
-    alike_left = λ c d p q defines same inside all. rest-alike (with_below e calls below) (Grows-refl st) is.held refl p q all;
     left = same-left (Grows-refl st) e (with_below e calls below) is.held refl (alone-bottom calls below less) (alone-out calls below less);
     long = long-same st e (with_below e calls below) (alone-bottom calls below less);
     which = λ cond is c. absurd (not-some-none (sym (next-none e none.before empty less.before) ∙ is));

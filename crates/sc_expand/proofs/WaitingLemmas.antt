@@ -1,12 +1,11 @@
 -- What configurations that wait keep of the whole list.
-use Rattle.std.proofs.Common.{◌≡◌, ℕ, ◌-◌, ◌&&◌, Bool, true, false, List, [], ◌∷◌, ◌++◌, All, append-nil, arith, drop, length, slice_get, Some, refl, sym, ap, subst, ◌∙◌, if◌then◌else◌}
-use Rattle.sc_expand.proofs.AlikeLemmas.{AreAlike-Keeps, alike-of, others-none}
+use Rattle.std.proofs.Common.{◌≡◌, ℕ, ◌&&◌, Bool, true, false, List, [], ◌∷◌, ◌++◌, All, append-nil, drop, slice_get, Some, refl, sym, ap, subst, ◌∙◌, if◌then◌else◌}
 use Rattle.sc_expand.proofs.BottomLemmas.{bottom-frame}
-use Rattle.sc_expand.proofs.Facts.{All-head, IsConfig-Keeps, IsConfig-kept, Keeps-refl, and-false, and-true, append_assoc, take_all}
-use Rattle.sc_expand.proofs.PuttingOut.{pushed-alike, pushed-held, pushed-seen, pushed-some, some-Keeps}
-use Rattle.sc_expand.proofs.SeenLemmas.{Grows-refl, seen_at-Grows, seen_at-append}
+use Rattle.sc_expand.proofs.Facts.{All-head, IsConfig-Keeps, IsConfig-kept, and-false, and-true, append_assoc}
+use Rattle.sc_expand.proofs.PuttingOut.{pushed-held, pushed-seen, pushed-some, some-Keeps}
+use Rattle.sc_expand.proofs.SeenLemmas.{seen_at-Grows, seen_at-append}
 use Rattle.sc_expand.proofs.TakingSteps.{seen-first}
-use Rattle.sc_expand.proofs.Terms.{AreAlike, AreHeld, Cond, Enclosing, Expansion, Grows, Hidden, IsAlike, IsAlikeExpansion, IsAlikeFrame, IsApart, IsCond, IsConfig, IsHeldExpansion, IsHeldToken, IsNever, Keeps, KeepsFirst, KeepsLeft, Sets, Stores, bottom, bottom_by, is_whole, no_others, put_out, seen_at, seen_hidden}
+use Rattle.sc_expand.proofs.Terms.{AreHeld, Cond, Enclosing, Expansion, Grows, Hidden, IsApart, IsCond, IsConfig, IsHeldExpansion, IsHeldToken, IsNever, Keeps, KeepsFirst, KeepsLeft, Sets, Stores, bottom, bottom_by, is_whole, put_out, seen_at, seen_hidden}
 use Rattle.sc_expand.specs.Waiting as waiting
 
 pub below-none : (below : List Enclosing) → is_whole below ≡ true → below ≡ []
@@ -56,13 +55,6 @@ module _ {old : Sets} (st : Stores) (keeps : Keeps old st.sets) {waits : ℕ} {b
   kept-inside (waiting.kept item cond whole first meets put) inside = absurd (inside whole)
   kept-inside (waiting.none empty same) inside = same
 
-  pub kept-alike : KeepsFirst old st.sets waits below work before after → (c d : List ℕ) → IsConfig old.arities c → IsConfig old.arities d → AreAlike old c d work → old.has waits c ≡ old.has waits d
-      → All (λ (item : Cond × Hidden). IsCond old item.0.0) before → AreAlike old c d before → AreAlike st.sets c d after
-  kept-alike (waiting.kept item cond whole first meets put) c d p q works both own_before same =
-      let has : IsAlike old c d item.0 = first-has (λ (x : Cond × Hidden). IsAlike old c d x.0) work item first works in
-      pushed-alike st.sets c d put (alike-of meets (IsConfig-Keeps keeps p) (IsConfig-Keeps keeps q) (λ i. has i && both i)) (AreAlike-Keeps keeps p q before own_before same)
-  kept-alike (waiting.none empty is) c d p q works both own_before same = subst (AreAlike st.sets c d) (sym is) (AreAlike-Keeps keeps p q before own_before same)
-
   pub kept-some : KeepsFirst old st.sets waits below work before after → All (λ (item : Cond × Hidden). IsNever st.sets item.0.0 → ⊥) before → All (λ (item : Cond × Hidden). IsNever st.sets item.0.0 → ⊥) after
   kept-some (waiting.kept item cond whole first meets put) some = pushed-some put some
   kept-some (waiting.none empty same) some = subst (All (λ (item : Cond × Hidden). IsNever st.sets item.0.0 → ⊥)) (sym same) some
@@ -104,73 +96,6 @@ same-left {old} {new} grows was now held rest work out = record {
   others = λ c listed lacks. ap (λ l. seen_at new l c) rest ∙ seen_at-Grows grows c listed was.rest held.rest;
   some = λ all. subst (All (λ (item : Cond × Hidden). IsNever new.sets item.0.0 → ⊥)) (sym rest) (some-Keeps grows.sets was.rest held.rest.own all);
 }
-
--- what waits is as it was
-pub rest-alike : {old new : Stores} {files : ℕ} {was : Expansion} (now : Expansion) → Grows old new → IsHeldExpansion old files was → now.rest ≡ was.rest → {c d : List ℕ} → IsConfig old.sets.arities c → IsConfig old.sets.arities d
-    → AreAlike old.sets c d was.rest → AreAlike new.sets c d now.rest
-rest-alike {old} {new} {files} {was} now grows held same {c} {d} p q all = subst (AreAlike new.sets c d) (sym same) (AreAlike-Keeps grows.sets p q was.rest held.rest.own all)
-
--- all of the whole list
-pub whole-alike : {s : Sets} {c d : List ℕ} (e : Expansion) → e.below.items ≡ [] → IsAlikeExpansion s c d no_others e → AreAlike s c d e.top.work
-whole-alike {s} {c} {d} e is alike =
-    let top = subst (λ o. IsAlikeFrame s c d o e.top) (others-none (length e.below.items)) alike.top in
-    subst (AreAlike s c d) (take_all (length e.top.work - 0) e.top.work (omega arith)) top.work
-
--- the first token of the list on top is gone
-pub dropped-left : (st : Stores) {files : ℕ} → Keeps st.sets st.sets → (was now : Expansion) → IsHeldExpansion st files was → now.refusals ≡ was.refusals → now.below ≡ was.below → now.top.out ≡ was.top.out
-    → now.top.work ≡ drop 1 was.top.work → KeepsFirst st.sets st.sets was.refusals.waiting.0 was.below.items was.top.work was.rest now.rest → KeepsLeft st st was now
-dropped-left st {files} keeps was now held refusals below out work kept_first = by was.below.items refl
-  where
-    Named : List (Cond × Hidden) → Type 0
-    Named = All (λ (item : Cond × Hidden). IsNever st.sets item.0.0 → ⊥)
-
-    by : (bs : List Enclosing) → was.below.items ≡ bs → KeepsLeft st st was now
-    by [] is =
-        let whole = ap (λ b. b.items) below ∙ is in
-        let bottom_was : bottom was ≡ was.top = ap (λ l. bottom_by l was.top) is in
-        let bottom_now : bottom now ≡ now.top = ap (λ l. bottom_by l now.top) whole in
-        let put : put_out now ≡ put_out was = ap (λ f. f.out) bottom_now ∙ (out ∙ sym (ap (λ f. f.out) bottom_was)) in
-        record {
-          left = λ c listed apart waits.
-              let has = ap (λ r. st.sets.has r.waiting.0 c) (sym refusals) ∙ waits in
-              (ap (λ f. seen_at st now.rest c ++ seen_at st f.work c) bottom_now ∙ ap (λ l. seen_at st now.rest c ++ seen_at st l c) work)
-              ∙ (kept-left st keeps held.top.work.own kept_first is c listed has ∙ sym (ap (λ f. seen_at st was.rest c ++ seen_at st f.work c) bottom_was));
-          put = λ c listed apart waits. ap (λ l. seen_at st l c) put;
-          others = λ c listed lacks. kept-others st keeps held.top.work.own kept_first c listed (ap (λ r. st.sets.has r.waiting.0 c) (sym refusals) ∙ lacks);
-          some = λ all. kept-some st keeps held.top.work.own kept_first all;
-        }
-    by (b ∷ bs) is =
-        let rest = kept-inside st keeps held.top.work.own kept_first (λ whole. (let no : b ∷ bs ≡ [] = sym is ∙ whole in cc)) in
-        let bottom_same : bottom now ≡ bottom was = ap (λ l. bottom_by l.items now.top) below ∙ (ap (λ l. bottom_by l now.top) is ∙ sym (ap (λ l. bottom_by l was.top) is)) in
-        same-left (Grows-refl st) was now held rest (ap (λ f. f.work) bottom_same) (ap (λ f. f.out) bottom_same)
-
-pub dropped-alike : (st : Stores) {files : ℕ} (was now : Expansion) → IsHeldExpansion st files was → now.below ≡ was.below
-    → KeepsFirst st.sets st.sets was.refusals.waiting.0 was.below.items was.top.work was.rest now.rest → {c d : List ℕ} → IsConfig st.sets.arities c → IsConfig st.sets.arities d → IsAlikeExpansion st.sets c d no_others was
-    → AreAlike st.sets c d was.rest → AreAlike st.sets c d now.rest
-dropped-alike st was now held below kept_first {c} {d} p q alike all = by was.below.items refl
-  where
-    by : (bs : List Enclosing) → was.below.items ≡ bs → AreAlike st.sets c d now.rest
-    by [] is = kept-alike st (Keeps-refl st.sets) held.top.work.own kept_first c d p q (whole-alike was is alike) alike.refusals.waiting held.rest.own all
-    by (b ∷ bs) is = rest-alike now (Grows-refl st) held (kept-inside st (Keeps-refl st.sets) held.top.work.own kept_first (λ whole. (let no : b ∷ bs ≡ [] = sym is ∙ whole in cc))) p q all
-
--- one after the other
-module _ {old mid new : Stores} {files : ℕ} (one two three : Expansion) (grows : Grows old mid) (later : Grows mid new) (held : IsHeldExpansion old files one) (middle : IsHeldExpansion mid files two)
-    (first : two.refusals ≡ one.refusals) (second : three.refusals ≡ two.refusals) where
-  same-waiting : (c : List ℕ) → IsConfig old.sets.arities c → new.sets.has three.refusals.waiting.0 c ≡ mid.sets.has two.refusals.waiting.0 c
-  same-waiting c listed = ap (λ r. new.sets.has r.waiting.0 c) second ∙ later.sets.at two.refusals.waiting.0 c middle.refusals.waiting (IsConfig-Keeps grows.sets listed)
-
-  still-apart : (c : List ℕ) → IsConfig old.sets.arities c → IsApart old.sets one c → IsApart mid.sets two c
-  still-apart c listed apart live =
-      let was = sym (ap (λ r. mid.sets.has r.live.0 c) first ∙ grows.sets.at one.refusals.live.0 c held.refusals.live listed) ∙ live in
-      ap (λ r. mid.sets.has r.waiting.0 c) first ∙ (grows.sets.at one.refusals.waiting.0 c held.refusals.waiting listed ∙ apart was)
-
-  pub left-then : KeepsLeft old mid one two → KeepsLeft mid new two three → KeepsLeft old new one three
-  left-then a b = record {
-    left = λ c listed apart waits. b.left c (IsConfig-Keeps grows.sets listed) (still-apart c listed apart) waits ∙ a.left c listed apart (sym (same-waiting c listed) ∙ waits);
-    put = λ c listed apart waits. b.put c (IsConfig-Keeps grows.sets listed) (still-apart c listed apart) waits ∙ a.put c listed apart (sym (same-waiting c listed) ∙ waits);
-    others = λ c listed lacks. b.others c (IsConfig-Keeps grows.sets listed) lacks ∙ a.others c listed (sym (same-waiting c listed) ∙ lacks);
-    some = λ all. b.some (a.some all);
-  }
 
 -- the store grew before
 pub left-Grows : {old mid new : Stores} {files : ℕ} {was now : Expansion} → Grows old mid → IsHeldExpansion old files was → KeepsLeft mid new was now → KeepsLeft old new was now

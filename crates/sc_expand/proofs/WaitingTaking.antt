@@ -1,13 +1,13 @@
 -- What configurations that wait have left as the first token of a list is taken.
 use Rattle.std.proofs.Common.{◌≡◌, ◌<◌, ◌&&◌, ℕ, Bool, true, false, List, [], ◌∷◌, ◌++◌, All, None, Some, append-nil, drop, length, map, slice_get, refl, sym, ap, subst, ◌∙◌, if◌then◌else◌}
 use Rattle.sc_expand.proofs.AlikeLemmas.{others-none}
-use Rattle.sc_expand.proofs.Facts.{IsConfig-Keeps, IsConfig-kept, and-false, slice_get_within}
+use Rattle.sc_expand.proofs.Facts.{IsConfig-Keeps, and-false, slice_get_within}
 use Rattle.sc_expand.proofs.PuttingOut.{some-Keeps}
 use Rattle.sc_expand.proofs.Rests.{first-is, some-same}
 use Rattle.sc_expand.proofs.SeenLemmas.{Grows-trans, seen_at-Grows, seen_at-append}
 use Rattle.sc_expand.proofs.TakingTurns.{first-token, put-seen}
-use Rattle.sc_expand.proofs.Terms.{AreAlike, Cond, Denotes, Enclosing, Expansion, Grows, HasPutOut, Hidden, IsAlikeExpansion, IsApart, IsCond, IsConfig, IsFirstIn, IsHeldExpansion, IsHeldTaken, IsNever, IsPushed, Keeps, KeepsFirst, KeepsLeft, KeepsLists, KeepsNext, Sets, Stores, Taken, View, at, bottom, bottom_by, has_first, no_others, seen_at, seen_hidden}
-use Rattle.sc_expand.proofs.WaitingLemmas.{kept-alike, kept-inside, kept-left, kept-others, kept-some, rest-alike, same-left, whole-alike}
+use Rattle.sc_expand.proofs.Terms.{Cond, Denotes, Enclosing, Expansion, Grows, HasPutOut, Hidden, IsApart, IsConfig, IsFirstIn, IsHeldExpansion, IsHeldTaken, IsNever, IsPushed, KeepsFirst, KeepsLeft, KeepsLists, KeepsNext, Stores, Taken, View, at, bottom, bottom_by, has_first, no_others, seen_at, seen_hidden}
+use Rattle.sc_expand.proofs.WaitingLemmas.{kept-inside, kept-left, kept-others, kept-some, same-left}
 use Rattle.sc_expand.specs.Running as running
 use Rattle.sc_expand.specs.Waiting as waiting
 
@@ -98,15 +98,6 @@ put-out-keeps {old} {st} {new} grows later was now next taken token item held li
     by (waiting.kept x cond whole at meets push) =
         running.first_kept item cond (sym (ap (λ b. b.items) lists.below) ∙ whole) calls first
         (subst (λ (z : Hidden × List (Cond × Hidden)). IsPushed new.sets cond z.0 z.1 next.rest) (λ i. (token-is x at i, lists.rest i)) push) (has x cond at meets)
-
--- both have what waits, or neither
-pub put-out-alike : {st new : Stores} {files : ℕ} → Grows st new → (now next : Expansion) (taken : Taken) (token : Hidden) → IsHeldExpansion st files now → HasPutOut st.sets new.sets taken token now next → {c d : List ℕ} → IsConfig st.sets.arities c → IsConfig st.sets.arities d
-    → IsAlikeExpansion st.sets c d no_others now → AreAlike st.sets c d now.rest → AreAlike new.sets c d next.rest
-put-out-alike {st} {new} later now next taken token held put {c} {d} p q alike every = by now.below.items refl
-  where
-    by : (bs : List Enclosing) → now.below.items ≡ bs → AreAlike new.sets c d next.rest
-    by [] is = kept-alike new later.sets held.top.work.own put.rest c d p q (whole-alike now is alike) alike.refusals.waiting held.rest.own every
-    by (b ∷ bs) is = rest-alike next later held (kept-inside new later.sets held.top.work.own put.rest (λ whole. (let no : b ∷ bs ≡ [] = sym is ∙ whole in cc))) p q every
 
 -- the first token is one of all that are looked at
 pub first-of-all : (e : Expansion) → IsFirstIn no_others e

@@ -10,14 +10,13 @@ use Rattle.sc_expand.specs.declared.call.Call.{Call}
 use Rattle.sc_expand.specs.declared.expansion.Expansion.{Expansion}
 use Rattle.sc_expand.specs.declared.frame.Enclosing.{Enclosing}
 use Rattle.sc_expand.specs.declared.frame.Frame.{Frame}
-use Rattle.sc_expand.specs.Alike.{CallNextAlike, DefineNextAlike, IsAlikeCall, IsAlikeExpansion, IsFirstIn, Others, no_others}
+use Rattle.sc_expand.specs.Alike.{CallNextAlike, DefineNextAlike, IsAlikeCall, IsAlikeExpansion, IsFirstIn, Others}
 use Rattle.sc_expand.specs.Having.{HasLast, HasMore, behind_at}
 use Rattle.sc_expand.specs.Machine.{IsHeldExpansion, Progress, at, at_call}
 use Rattle.sc_expand.specs.Seen.{Grows, IsHeldCall, Stores, provenance_of, seen_at}
 use Rattle.sc_expand.specs.Restricted.{IsPushed, IsRestricted}
 use Rattle.sc_expand.specs.Turn.{Turn}
 use Rattle.sc_expand.specs.Waiting.{KeepsFirst}
-use Rattle.sc_hoist.specs.Alike.{AreAlike}
 use Rattle.sc_model.specs.Sets.{Sets, IsConfig, IsNever}
 use Rattle.sc_subst.specs.declared.hidden.Hidden.{Hidden}
 
@@ -131,10 +130,7 @@ pub record IsRested (old new : Stores) (e after : Expansion) : Type 0 where
   pub held : (files : ℕ) → IsHeldExpansion old files e → IsHeldExpansion new files after
   pub progress : (files : ℕ) (provenance : Provenance Place) (macros : Macros) (c : List ℕ) → IsHeldExpansion old files e → IsConfig old.sets.arities c
       → Progress provenance macros old new c e.below.items after.below.items (at old e c) (at new after c) false
-  pub left : (files : ℕ) → IsHeldExpansion old files e → KeepsLeft old new e after
   pub keeps : (files : ℕ) → IsHeldExpansion old files e → KeepsGone new.sets e after
-  pub alike_left : (files : ℕ) (c d : List ℕ) → IsHeldExpansion old files e → IsConfig old.sets.arities c → IsConfig old.sets.arities d → IsAlikeExpansion old.sets c d no_others e
-      → AreAlike old.sets c d e.rest → AreAlike new.sets c d after.rest
   pub uncalled : IsUncalled e → IsUncalled after
   pub alike : (files : ℕ) (c d : List ℕ) (others : Others) → IsHeldExpansion old files e → IsConfig old.sets.arities c → IsConfig old.sets.arities d
       → IsAlikeExpansion old.sets c d others e → IsAlikeExpansion new.sets c d others after
@@ -171,8 +167,6 @@ pub record IsTurned (files : List (List ℕ)) (macros : List ℕ → Macros) (ol
       → Progress (provenance_of files) (macros c) old new c e.below.items after.below.items (at old e c) (at new after c) (takes c)
   pub left : KeepsLeft old new e after
   pub keeps : KeepsNext old.sets new.sets e after went
-  pub alike_left : (c d : List ℕ) → IsConfig old.sets.arities c → IsConfig old.sets.arities d → DefineNextAlike old (macros c) (macros d) c e → CallNextAlike old (macros c) c d e
-      → IsAlikeExpansion old.sets c d no_others e → AreAlike old.sets c d e.rest → AreAlike new.sets c d after.rest
   pub long : IsAsLong e after
   pub which : (cond : Cond) → next_of e ≡ Some cond → (c : List ℕ) → takes c ≡ old.sets.has cond.0 c
   pub some : went ≡ true → ((c : List ℕ) → IsConfig old.sets.arities c → takes c ≡ true → old.sets.has e.refusals.live.0 c ≡ true → ⊥) → ⊥
@@ -220,8 +214,6 @@ pub record TakesFirst (files : List (List ℕ)) (macros : List ℕ → Macros) (
   pub pushes : (item : Cond × Hidden) → slice_get was.top.work 0 ≡ Some item → (cond : Cond) × IsPushed new.sets cond item.1 was.top.out now.top.out
   pub left : KeepsLeft old new was now
   pub keeps : KeepsNext old.sets new.sets was now true
-  pub alike_left : (c d : List ℕ) → IsConfig old.sets.arities c → IsConfig old.sets.arities d → DefineNextAlike old (macros c) (macros d) c was → CallNextAlike old (macros c) c d was
-      → IsAlikeExpansion old.sets c d no_others was → AreAlike old.sets c d was.rest → AreAlike new.sets c d now.rest
   pub alike : (c d : List ℕ) (others : Others) → IsConfig old.sets.arities c → IsConfig old.sets.arities d → DefineNextAlike old (macros c) (macros d) c was
       → CallNextAlike old (macros c) c d was → IsFirstIn others was → IsAlikeExpansion old.sets c d others was → IsAlikeExpansion new.sets c d others now
   pub long : length was.top.work ≤ suc (length now.top.work)

@@ -10,9 +10,9 @@ use Rattle.sc_expand.proofs.SeenLemmas.{AreHeld-Grows, IsHeldExpansion-Grows, Is
 use Rattle.sc_expand.proofs.StopsLemmas.{stops-earlier}
 use Rattle.sc_expand.proofs.TakenLemmas.{long-put, taken-put}
 use Rattle.sc_expand.proofs.TakingSteps.{Ends}
-use Rattle.sc_expand.proofs.TakingTurns.{first-both, first-grew, first-item, first-own, first-ready, first-taken, first-token, put-ends, put-held, refused-out, step-Grows, take-first, take-turn, take-waits}
-use Rattle.sc_expand.proofs.Terms.{AreAlike, CallNextAlike, Cond, DefineNextAlike, Enclosing, Expansion, Extends, Grows, HasLast, HasPutOut, Hidden, IsAlikeEnclosing, IsAlikeExpansion, IsAlikeTaken, IsCond, IsConfig, IsFirstIn, IsFunctionLike, IsHeldExpansion, IsNever, IsPushed, KeepsLeft, Others, Span, TakesName, Turn, at, is_looked_up, macros_at, no_others, others_at, provenance_of, seen_at, seen_hidden, stores, text_of}
-use Rattle.sc_expand.proofs.WaitingTaking.{first-of-all, put-out-alike, put-out-keeps, put-out-left}
+use Rattle.sc_expand.proofs.TakingTurns.{first-both, first-grew, first-item, first-ready, first-taken, first-token, put-ends, put-held, refused-out, step-Grows, take-first, take-turn, take-waits}
+use Rattle.sc_expand.proofs.Terms.{CallNextAlike, Cond, DefineNextAlike, Enclosing, Extends, Grows, HasLast, Hidden, IsAlikeEnclosing, IsAlikeExpansion, IsAlikeTaken, IsCond, IsConfig, IsFirstIn, IsFunctionLike, IsHeldExpansion, IsNever, IsPushed, KeepsLeft, Others, Span, TakesName, Turn, at, is_looked_up, macros_at, others_at, provenance_of, seen_at, seen_hidden, stores, text_of}
+use Rattle.sc_expand.proofs.WaitingTaking.{put-out-keeps, put-out-left}
 use Rattle.sc_expand.proofs.expansion.Expansion.take.Goals as goal
 
 pub take_under-requires : goal.take_under-requires
@@ -135,10 +135,6 @@ returns g c =
             put-alike s2 s3 x y others now next taken c.args.token put
             (record { stays = IsAlike-Keeps later.sets (IsConfig-Keeps before.sets p) (IsConfig-Keeps before.sets q) told.taken.stays came.1.stays; made = AreAlike-Keeps later.sets (IsConfig-Keeps before.sets p) (IsConfig-Keeps before.sets q) taken.made.items told.taken.made.own came.1.made })
             (IsAlikeExpansion-Keeps {old = st} later.sets (IsConfig-Keeps before.sets p) (IsConfig-Keeps before.sets q) others now told.held came.0);
-        alike_left = λ x y p q defined called inside every.
-            let came = took x y no_others p q defined called (first-of-all was) inside in
-            put-out-alike {st = st} {new = last} later now next taken c.args.token told.held put (IsConfig-Keeps before.sets p) (IsConfig-Keeps before.sets q) came.0
-            (subst (AreAlike s2 x y) (sym told.lists.rest) (AreAlike-Keeps before.sets p q was.rest held.rest.own every));
       };
       stops = tt;
       keeps = all.sets;
