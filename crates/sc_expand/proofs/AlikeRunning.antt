@@ -8,7 +8,7 @@ use Rattle.sc_expand.proofs.KeptLemmas.{rested-alike}
 use Rattle.sc_expand.proofs.MachineLemmas.{pending_at, progress-step, stands-cases, state-top}
 use Rattle.sc_expand.proofs.PlainAgreement.{AgreesFrom, agrees-move, agrees-name, agrees-start, agrees-under}
 use Rattle.sc_expand.proofs.PlainTurns.{under}
-use Rattle.sc_expand.proofs.PuttingOut.{pushed-alike}
+use Rattle.sc_expand.proofs.WaitingLemmas.{pushed-alike}
 use Rattle.sc_expand.proofs.Rests.{first-is}
 use Rattle.sc_expand.proofs.RunLemmas.{IsRunning, rests-at, running-apart, running-stands, start-state, turned-at}
 use Rattle.sc_expand.proofs.Terms.{AreAlike, At, CallNextAlike, Cond, DefineAlike, DefineNextAlike, Enclosing, Expansion, Grows, Hidden, IsAlike, IsAlikeExpansion, IsAlikeFrame, IsApart, IsConfig, IsHeldExpansion, IsRested, IsSameCall, IsTurned, IsUntouched, IsWithin, KeepsNext, Macros, Place, Progress, Provenance, Sets, Stands, State, Stores, bottom, bottom_by, calls_at, items_at, no_others, provenance_of, scanning, seen_at, seen_hidden, state_by, state_in, view_at}

@@ -7,7 +7,7 @@ use Rattle.sc_expand.proofs.SeenLemmas.{macros_at-Grows}
 use Rattle.sc_expand.proofs.TakingSteps.{none-before}
 use Rattle.sc_expand.proofs.TakingTurns.{FirstTaken, first-both, first-grew}
 use Rattle.sc_expand.proofs.Terms.{AreAlike, AreAlikeRefusals, AreHeld, AreTaken, Cond, Enclosing, Expansion, Extends, Grows, HasPutOut, Hidden, IsAlike, IsAlikeCall, IsAlikeEnclosing, IsAlikeExpansion, IsAlikeFrame, IsAlikeIn, IsAlikeTaken, IsCond, IsConfig, IsFunction, IsFunctionLike, IsHeldDefinition, IsOneToOne, IsPushed, IsSameCall, IsTaken, MacroTable, Others, Rc, Sets, Span, Stores, Taken, TakesName, TakesPart, has_each, is_function_like, is_looked_up, items_at, macros_at, option_map, others_at, seen_definition, seen_hidden, stores, text_of}
-use Rattle.sc_expand.proofs.RestrictedLists.{All-before, All-behind}
+use Rattle.sc_expand.proofs.KeptLemmas.{All-before, All-behind}
 use Rattle.sc_expand.specs.Restricted as restricted
 use Rattle.sc_macro.specs.declared.definition.Definition.{Definition}
 

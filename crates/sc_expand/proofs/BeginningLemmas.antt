@@ -1,4 +1,4 @@
-use Rattle.std.proofs.Common.{◌≡◌, ℕ, zero, suc, ◌+◌, ◌-◌, ◌<◌, ◌≤◌, ◌++◌, Bool, true, false, not, if◌then◌else◌, Option, Some, None, Result, Ok, Err, refl, subst, sym, ap, ◌∙◌, List, [], ◌∷◌, map, reverse, length, take, drop, get_or, All, arith, is_some, codes, is_ok, slice_get, IfNone, IfOk, IfSome}
+use Rattle.std.proofs.Common.{◌≡◌, ℕ, zero, suc, ◌+◌, ◌-◌, ◌<◌, ◌≤◌, ◌++◌, Bool, true, false, not, if◌then◌else◌, Option, Some, None, Result, Ok, Err, refl, subst, sym, ap, ◌∙◌, List, [], ◌∷◌, map, reverse, length, take, drop, get_or, All, arith, is_some, codes, is_ok, slice_get, IfNone, IfSome}
 use Rattle.c11_macros.specs.Call.{Call as SomeCall}
 use Rattle.sc_expand.proofs.Facts.{All-drop, All-head, All-tail, All-weaker, Extends-trans, IsHeldHidden-Extends, IsHeldSet-Extends, drop_more, get_or-map, hide_later, items_at-Keeps, items_at-append, length-drop, length-map, map-id, map-map, slice_get-get_or, take-append-drop, text_later}
 use Rattle.sc_expand.proofs.Parting.{parted_call}
@@ -19,10 +19,6 @@ map_some (Some a) f h = f a h
 pub map_none : {A P Q : Type 0} (r : Option A) → (P → Q) → IfNone r P → IfNone r Q
 map_none None f h = f h
 map_none (Some a) f h = tt
-
-pub map_ok : {A E : Type 0} {P Q : A → Type 0} (r : Result A E) → ((a : A) → P a → Q a) → IfOk r P → IfOk r Q
-map_ok (Ok a) f h = f a h
-map_ok (Err e) f h = tt
 
 -- a fault that is none of # is one of ##
 pub on_paste : (H P : Type 0) (x : Cause) → (x ≡ cause.BadStringize → ⊥) → OnOperator x H P → (x ≡ cause.BadPaste) × P

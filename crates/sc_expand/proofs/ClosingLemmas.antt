@@ -3,7 +3,7 @@ use Rattle.std.proofs.Common.{◌≡◌, ℕ, zero, suc, ◌+◌, ◌&&◌, ◌|
 use Rattle.sc_expand.proofs.Ending.{bared}
 use Rattle.sc_expand.proofs.Facts.{All-cons, All-head, All-nil, All-push, All-tail, IsConfig-Keeps, IsConfig-kept, faults_at-Keeps, faults_at-append, items_at-append, map-append, map-one}
 use Rattle.sc_expand.proofs.Terms.{AreAlike, Cond, Denotes, Failure, Fault, Hidden, IsAlike, IsCond, IsConfig, IsNever, IsRestricted, Keeps, Place, Sets, Token, UnterminatedCall, empty, failures_at, faults_at, is_several, items_at, seen_failure, unclosed_at}
-use Rattle.sc_expand.proofs.RestrictedLists.{both-Keeps, restricted-append, restricted-Keeps}
+use Rattle.sc_expand.proofs.KeptLemmas.{both-Keeps, restricted-append, restricted-Keeps}
 use Rattle.sc_expand.specs.Restricted as restricted
 
 -- the list has an item

@@ -1,7 +1,6 @@
 -- A token that is put behind others with white space of its own where it is the first.
 use Rattle.std.proofs.Common.{◌≡◌, ◌&&◌, ◌++◌, ◌∷◌, [], ◌∙◌, ◌<◌, ◌+◌, not, Bool, true, false, ℕ, zero, suc, List, All, take, length, get_or, map, slice_get, Some, ap, sym, refl, subst, if◌then◌else◌}
-use Rattle.sc_expand.proofs.AlikeFilling.{items_at-alike, lists-Keeps}
-use Rattle.sc_expand.proofs.AlikeLemmas.{AreAlike-Keeps, IsAlike-Keeps, alike-of}
+use Rattle.sc_expand.proofs.AlikeLemmas.{items_at-alike, lists-Keeps, AreAlike-Keeps, IsAlike-Keeps, alike-of}
 use Rattle.sc_expand.proofs.Facts.{All-cons, All-head, All-nil, All-push, All-tail, All-take, Denotes-Keeps, IsConfig-Keeps, IsConfig-kept, Keeps-refl, Keeps-trans, and-true, append-nil, append_assoc, get_or_from_slice_get, hidden_later, items_at-Keeps, items_at-append, items_at-take, map-append, slice_get-map, slice_get_within, spaced_first, take_more}
 use Rattle.sc_expand.proofs.Terms.{Adds, AllHeld, AreAlike, AreHeld, Cond, Denotes, Extends, Hidden, HiddenToken, HideSet, IsAlike, IsCond, IsConfig, IsHeldHidden, IsHeldPartIn, IsHeldToken, Keeps, Name, Part, Place, Sets, Stores, argument, expanded_argument, filled_in, first_spaced, first_spaced_if, hidden_by, hiding, items_at, option_map, part_at, parts_at, provenance_of, seen_hidden, seen_part, spaced, stores, with_space}
 use Rattle.sc_subst.specs.declared.part.Part.TheVariants as part

@@ -2,7 +2,7 @@
 use Rattle.std.proofs.Common.{◌≡◌, ℕ, zero, suc, ◌&&◌, Bool, true, false, List, [], ◌∷◌, ◌++◌, map, take, drop, length, codes, Option, Some, None, refl, sym, ap, subst, ◌∙◌, if◌then◌else◌, is_some}
 use Rattle.c11_macros.specs.Call.{Call, arguments_for, call_of}
 use Rattle.sc_expand.proofs.BeginningLemmas.{call_is}
-use Rattle.sc_expand.proofs.PlainCases.{case-alone, case-bare, case-open}
+use Rattle.sc_expand.proofs.TakingSteps.{case-alone, case-bare, case-open}
 use Rattle.sc_expand.proofs.Terms.{ClosesAt, Definition, EndsBefore, HiddenToken as Hidden, IsCall, Macros, Rest, alone, bare, call_end, call_length, case_of, closed, closing_at, fitted_case, function_like, is_function_like, is_function_named, is_last_name, is_looked_up, opened_end, opened_length, parted, same_bytes, slice_get, stays, still, unclosed}
 use Rattle.sc_hoist.proofs.CallLemmas.{closes_at}
 

@@ -1,7 +1,7 @@
 -- The tokens of a call at the places of a branch.
 use Rattle.std.proofs.Common.{◌≡◌, ℕ, zero, suc, ◌+◌, ◌-◌, ◌<◌, ◌≤◌, Bool, true, false, List, [], ◌∷◌, ◌++◌, All, map, take, drop, length, get_or, refl, sym, ap, subst, ◌∙◌, arith, ◌⊎◌, inl, inr, Some, slice_get, if◌then◌else◌}
 use Rattle.sc_expand.proofs.BeginningLemmas.{behind_place, call_tokens, map_of_take, same_conds}
-use Rattle.sc_expand.proofs.Facts.{All-cons, All-head, All-nil, All-tail, All-take, cases_lt, get_or-take, get_or_default, get_or_from_slice_get, length-append, length-drop, length-map, map-map, slice_get_within}
+use Rattle.sc_expand.proofs.Facts.{All-cons, All-head, All-nil, All-tail, All-take, cases_lt, get_or-take, get_or_default, get_or_from_slice_get, length-append, length-drop, length-map, map-map, slice_get_within, drop-map}
 use Rattle.sc_expand.proofs.GatherCases.{Closed, closed-call, spellings}
 use Rattle.sc_expand.proofs.Terms.{Branch, Cond, Expansion, Hidden, HiddenToken, IsBranch, IsCall, IsCalled, IsConfig, IsNever, Place, Sets, Stores, Token, call_end, call_length, has_first, items_at, places_from, seen_at, seen_hidden, spelled_at, stores, text_at, token_at, tokens_in}
 
@@ -26,11 +26,6 @@ take-call (y ∷ b) x a = ap (λ l. y ∷ l) (take-call b x a)
 drop-call : {A : Type 0} (b : List A) (x : A) (a : List A) → drop (suc (length b)) (b ++ x ∷ a) ≡ a
 drop-call [] x a = refl
 drop-call (y ∷ b) x a = drop-call b x a
-
-map_of_drop : {A B : Type 0} (f : A → B) (k : ℕ) (xs : List A) → map f (drop k xs) ≡ drop k (map f xs)
-map_of_drop f zero xs = refl
-map_of_drop f (suc k) [] = refl
-map_of_drop f (suc k) (x ∷ xs) = map_of_drop f k xs
 
 record Ends {A B : Type 0} (f : A → B) (zs : List A) (b : List B) (x : B) (d : A) : Type 0 where
   before : map f (take (length b) zs) ≡ b
@@ -184,7 +179,7 @@ module _ (st : Stores) (e : Expansion) (places c : List ℕ) (called : IsCalled 
         long = long;
         behind = ap (λ n. seen_at st (drop (n + 1) work) c) (last-place long)
             ∙ (ap (map see) (behind_place st.sets work c 1 (suc m) within)
-            ∙ (map_of_drop see (suc (suc m)) items
+            ∙ (sym (drop-map see (suc (suc m)) items)
             ∙ (ap (drop (suc (suc m))) the_call.call.is ∙ drop-call the_call.between the_call.close the_call.after)));
       }
 

@@ -1,7 +1,7 @@
 -- The call of a branch is taken out of its list, and begins to wait or is refused.
 use Rattle.std.proofs.Common.{◌≡◌, ℕ, zero, suc, ◌<◌, ◌==◌, ◌&&◌, Bool, true, false, List, [], ◌∷◌, ◌++◌, All, map, length, Some, None, get_or, subst, if◌then◌else◌, drop, Option, IsTrue, slice_get, refl, sym, ap, ◌∙◌, is_some}
 use Rattle.sc_expand.proofs.AlikeLemmas.{all-back, IsAlike-Keeps, lacks-first}
-use Rattle.sc_expand.proofs.Facts.{All-append, All-cons, All-head, All-nil, All-tail, Extends-refl, Extends-trans, IsConfig-Keeps, form_later, hidden_later, items_later}
+use Rattle.sc_expand.proofs.Facts.{All-append, All-cons, All-head, All-nil, All-tail, Extends-refl, Extends-trans, IsConfig-Keeps, form_later, hidden_later, items_later, All-map}
 use Rattle.sc_expand.proofs.GatherCases.{case-closed}
 use Rattle.sc_expand.proofs.SeenLemmas.{IsHeldExpansion-Grows, at-Grows}
 use Rattle.sc_expand.proofs.TakingSteps.{decided-called, decided-misfit, has_first-Keeps, no-wait, seen-first, state-scanning}
@@ -280,10 +280,6 @@ module _ {P : Type 0} (F : HiddenToken P → Type 0) where
       by true e = let same : made ≡ fit = cc in subst Each same (each-filled parameters variadic (given parameters variadic lists) (each-given parameters variadic lists all))
       by false e = absurd (cc)
 
-all-to : {A B : Type 0} (P : B → Type 0) (f : A → B) (xs : List A) → All (λ x. P (f x)) xs → All P (map f xs)
-all-to P f [] all = All-nil P
-all-to P f (x ∷ xs) all = All-cons P (f x) (map f xs) (All-head (λ x. P (f x)) x xs all) (all-to P f xs (All-tail (λ x. P (f x)) x xs all))
-
 -- the arguments stand in files that the table tells where the tokens of the call do
 pub arguments-held : (st : Stores) (files : ℕ) (between : List Hidden) (raw : List (List Hidden)) (parameters : List (List ℕ)) (variadic : Bool)
     → arguments_for parameters variadic (parted (length parameters) 0 (seen_list st.names st.hides between)) ≡ Some (seen_arguments st.names st.hides raw)
@@ -292,7 +288,7 @@ arguments-held st files between raw parameters variadic fits held own =
     let see = seen_hidden st.names st.hides in
     let F : HiddenToken Place → Type 0 = λ t. t.place.file.0 < files in
     let each : List Hidden → List (HiddenToken Place) = seen_list st.names st.hides in
-    let here : All F (seen_list st.names st.hides between) = all-to F see between (λ k d h. (held k d h).file) in
+    let here : All F (seen_list st.names st.hides between) = All-map F see between (λ k d h. (held k d h).file) in
     let all : All (All F) (map each raw) = each-fitting F parameters variadic (parted (length parameters) 0 (seen_list st.names st.hides between)) (seen_arguments st.names st.hides raw)
     (each-parted F (length parameters) 0 (seen_list st.names st.hides between) here) fits in
     let back : All (λ (a : List Hidden). All F (each a)) raw = all-back (All F) each raw all in

@@ -5,7 +5,7 @@ use Rattle.sc_expand.proofs.MachineLemmas.{IsBelow, IsOnTop, alone, below-stands
 use Rattle.sc_expand.proofs.OpenLemmas.{called-waits, expands-not, under-waits}
 use Rattle.sc_expand.proofs.PlainTurns.{move-under, under}
 use Rattle.sc_expand.proofs.Terms.{Call, Enclosing, HiddenToken, IsAbsent, Macros, Moves, Place, Provenance, Stands, Stores, View, Waiting, Waits, calls_at, expanding, no_view, scanning, seen_at, state_by, state_in, state_of, view_at, waiting, waiting_at, with_call, with_expanded, without_first}
-use Rattle.sc_expand.proofs.RestrictedLists.{never-empty}
+use Rattle.sc_expand.proofs.KeptLemmas.{never-empty}
 use Rattle.sc_expand.specs.Plain as plain
 
 pub last-alone : {A : Type 0} (xs : List A) (x : A) → length (xs ++ x ∷ []) ≤ 1 → xs ≡ []

@@ -6,9 +6,8 @@ use Rattle.c11_macros.specs.Runs as run
 use Rattle.sc_expand.proofs.Facts.{append_cancel_right, called-ends, case-in, cons-some, false_from_ne_true, leaves-source, leaves-split, misfit-ends, these-none}
 use Rattle.sc_expand.proofs.Behind.{lower-all, lower-min}
 use Rattle.sc_expand.proofs.PlainArguments.{replaced_with}
-use Rattle.sc_expand.proofs.PlainCompletes.{Completes, looked, scanned, scans}
+use Rattle.sc_expand.proofs.PlainCompletes.{Completes, looked, scanned, scans, Covers, covers-back, covers-both, covers-front, covers-same, covers-then}
 use Rattle.sc_expand.proofs.PlainMoves.{asked-each, fails-by, move-back, none-asked}
-use Rattle.sc_expand.proofs.PlainNames.{Covers, covers-back, covers-both, covers-front, covers-same, covers-then}
 use Rattle.sc_expand.proofs.Terms.{Definition, Each, End, Expands, Fails, Failure, HiddenToken as Hidden, IsTemplate, Leaves, Macros, Moves, Provenance, Runs, Slot, State, Uses, Waiting, Waits, asked, beyond, call_result, called, case_of, expanding, fails, gathered, is_last_name, looked_up_at, meet, misfit, next, no_uses, none, object_result, over, put_together, replaced, replacement_of, result_and_then, scanning, stays, stops, then_uses, trace, trace_each, using, waiting, waits, with_expanded, with_name, within, without_first}
 use Rattle.sc_expand.specs.FootprintSteps.{IsPending, bottom, lower_of}
 use Rattle.sc_expand.specs.Open as opened

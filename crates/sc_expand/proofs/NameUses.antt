@@ -8,8 +8,7 @@ use Rattle.sc_expand.proofs.NameRuns.{IsInFront, RescanRuns, StateRuns, on, refu
 use Rattle.sc_expand.proofs.PlainAgreement.{head-taken}
 use Rattle.sc_expand.proofs.PlainArguments.{replaced_with, supplied}
 use Rattle.sc_expand.proofs.PlainCompletes as completes
-use Rattle.sc_expand.proofs.PlainCompletes.{Completes, Ends, ends, looked, scanned}
-use Rattle.sc_expand.proofs.PlainNames.{Covers, covers-front, covers-same, covers-then}
+use Rattle.sc_expand.proofs.PlainCompletes.{Completes, Ends, ends, looked, scanned, Covers, covers-front, covers-same, covers-then}
 use Rattle.sc_expand.proofs.PlainTurns.{Pending, under}
 use Rattle.sc_expand.proofs.Terms.{Case, End, Failure, HiddenToken as Hidden, IsWithin, Leaves, Macros, Provenance, Runs, State, Uses, Waiting, called, case_of, expanding, fails, looked_up_at, misfit, no_uses, replaced, scanning, stays, then_uses, trace_each, unclosed, using, waiting, with_expanded}
 use Rattle.sc_expand.specs.FootprintSteps.{bottom}

@@ -3,7 +3,7 @@ use Rattle.std.proofs.Common.{◌≡◌, ℕ, suc, Bool, true, false, nat_eq, Li
 use Rattle.sc_expand.proofs.AlikeLemmas.{AreAlike-Keeps}
 use Rattle.sc_expand.proofs.Facts.{All-append, All-cons, All-head, All-nil, All-tail, eq-eqb, items_at-Keeps, items_at-append, map-append, ne_eqb}
 use Rattle.sc_expand.proofs.Terms.{AreAlike, Cond, IsAhead, IsAlike, IsCond, IsConfig, IsSameName, Keeps, Sets, indexes_in, items_at, of_item}
-use Rattle.sc_expand.proofs.RestrictedLists.{All-before, All-behind}
+use Rattle.sc_expand.proofs.KeptLemmas.{All-before, All-behind}
 use Rattle.sc_expand.specs.Spans as spans
 
 module _ {A : Type 0} where

@@ -15,7 +15,7 @@ use Rattle.sc_expand.proofs.PhaseCalls.{Defined, closed-takes, function-of, span
 use Rattle.sc_expand.proofs.PhaseMoves.{takes-pending}
 use Rattle.sc_expand.proofs.PhaseSpans.{IsInside, here, inside-span}
 use Rattle.sc_expand.proofs.Phases.{IsReady, PairStands, Phase, Spans, as_one, bound_of, come_through, last_at, state_now}
-use Rattle.sc_expand.proofs.PlainNames.{covers-then}
+use Rattle.sc_expand.proofs.PlainCompletes.{covers-then}
 use Rattle.sc_expand.proofs.PlainTurns.{under}
 use Rattle.sc_expand.proofs.Rests.{first-is, next-token}
 use Rattle.sc_expand.proofs.RunLemmas.{IsRunning, running-stands}

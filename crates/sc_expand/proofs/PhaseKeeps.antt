@@ -4,7 +4,7 @@ use Rattle.std.proofs.Common.{◌≡◌, ℕ, suc, ◌+◌, ◌-◌, ◌<◌, �
 use Rattle.sc_expand.proofs.AlikeLemmas.{All-but-tail}
 use Rattle.sc_expand.proofs.AlikeTaking.{alike-first}
 use Rattle.sc_expand.proofs.Behind.{Fall, Fall-weaker, below, below-all, below-has, below-not}
-use Rattle.sc_expand.proofs.Facts.{All-cons, All-head, All-nil, All-tail, IsConfig-Keeps, and_parts, cases_eq, cases_lt, eq-eqb, le-ltb, length-drop, length-map, lt-ltb, ne_eqb}
+use Rattle.sc_expand.proofs.Facts.{All-cons, All-head, All-nil, All-tail, IsConfig-Keeps, and_parts, cases_eq, cases_lt, eq-eqb, le-ltb, length-drop, length-map, lt-ltb, ne_eqb, and_right, nil_from_length}
 use Rattle.sc_expand.proofs.NamedItems.{indexes-append, indexes-Keeps, indexes-long, item-none, item-one, item-whole}
 use Rattle.sc_expand.proofs.PhaseLists.{length-seen, same-drop}
 use Rattle.sc_expand.proofs.RunLemmas.{IsRunning, running-apart}
@@ -13,10 +13,6 @@ use Rattle.sc_expand.proofs.Terms.{AreAlike, Cond, Expansion, Grows, Hidden, IsA
 use Rattle.sc_expand.specs.Running as running
 use Rattle.sc_expand.specs.Running.{KeepsLeft, KeepsNext, Rest, bottom, bottom_by, put, took}
 use Rattle.sc_expand.specs.Restricted as restricted
-
-pub none-long : {A : Type 0} (xs : List A) → length xs ≡ 0 → xs ≡ []
-none-long [] none = refl
-none-long (x ∷ xs) none = absurd (omega (arith, none))
 
 -- ---- numbers
 
@@ -95,10 +91,6 @@ numbers-first long n m at ns falls le = numbers-low long n at ns (Fall-weaker (s
 
 -- ---- a turn
 
-and-none : (a b : Bool) → b ≡ false → (a && b) ≡ false
-and-none true b is = is
-and-none false b is = refl
-
 empty-first : {A : Type 0} (list : List A) (x : A) → list ≡ [] → slice_get list 0 ≡ Some x → ⊥
 empty-first [] x is first = cc
 empty-first (y ∷ ys) x is first = cc
@@ -147,7 +139,7 @@ module _ {files : List (List ℕ)} {macros : List ℕ → Macros} {old now : Sto
   more-idle (running.first_kept item cond whole none first (restricted.pushed some is) has) idle listed = absurd (some (record {
     none = λ c there.
         let here = listed c there in
-        has c (IsConfig-Keeps grows.sets here) (running-apart grows r c here) ∙ and-none (now.sets.has item.0.0 c) (new.sets.has after.refusals.waiting.0 c) (idle c here);
+        has c (IsConfig-Keeps grows.sets here) (running-apart grows r c here) ∙ and_right (now.sets.has item.0.0 c) (new.sets.has after.refusals.waiting.0 c) (idle c here);
   }))
   more-idle (running.first_kept item cond whole none first (restricted.absent never is) has) idle listed = refl
 
@@ -269,7 +261,7 @@ module _ {files : List (List ℕ)} {macros : List ℕ → Macros} {old now : Sto
 
           by-made : (made : List ℕ) (gone : ℕ) → numbers-now ≡ made ++ drop gone numbers-were → length made ≡ 0 → numbers-now ≡ drop kept numbers-were
           by-made made gone is none =
-              let same : numbers-now ≡ drop gone numbers-were = is ∙ ap (λ l. l ++ drop gone numbers-were) (none-long made none) in
+              let same : numbers-now ≡ drop gone numbers-were = is ∙ ap (λ l. l ++ drop gone numbers-were) (nil_from_length made none) in
               same ∙ same-drop gone kept numbers-were (let count = ap length same in let many = more-count in omega (arith, count, many, length-drop kept numbers-were))
 
           by : Rest now new e after c → numbers-now ≡ drop kept numbers-were
@@ -311,7 +303,7 @@ module _ (s : Sets) (waiting long n at left : ℕ) where
   -- where no configuration waits nothing is kept
   pub numbered-idle : {gone kept : List (Cond × Hidden)} (r : IsRestricted s waiting gone kept) → ((c : List ℕ) → IsConfig s.arities c → s.has waiting c ≡ false) → numbered r ≡ []
   numbered-idle restricted.empty idle = refl
-  numbered-idle (restricted.kept cond item list rest both some r) idle = absurd (some (record { none = λ c listed. both.at c listed ∙ and-none (s.has item.0.0 c) (s.has waiting c) (idle c listed) }))
+  numbered-idle (restricted.kept cond item list rest both some r) idle = absurd (some (record { none = λ c listed. both.at c listed ∙ and_right (s.has item.0.0 c) (s.has waiting c) (idle c listed) }))
   numbered-idle (restricted.left_out item list rest none r) idle = numbered-idle r idle
 
   -- at a configuration that waits what is kept are the indexes of what is gone

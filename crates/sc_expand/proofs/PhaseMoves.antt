@@ -9,13 +9,13 @@ use Rattle.sc_expand.proofs.PhaseKeeps.{below-most}
 use Rattle.sc_expand.proofs.PhaseLists.{length-seen}
 use Rattle.sc_expand.proofs.PhaseSegments.{held-take}
 use Rattle.sc_expand.proofs.Phases.{IsReady, Phase, last_at, state_now, tokens_from}
-use Rattle.sc_expand.proofs.Placed.{Placed, placed-move}
+use Rattle.sc_expand.proofs.PassesLaws.{Placed, placed-move}
 use Rattle.sc_expand.proofs.Rests.{next-argument, next-call, next-token}
 use Rattle.sc_expand.proofs.RunLemmas.{IsRunning, running-stands, turned-at}
 use Rattle.sc_expand.proofs.SeenLemmas.{seen_at-Grows}
 use Rattle.sc_expand.proofs.Terms.{AreHeld, Call, Cond, Enclosing, Expansion, Grows, Hidden, HiddenToken, IsAbsent, IsConfig, IsHeldExpansion, IsPending, Macros, Moves, Place, Sets, Stands, State, Stores, View, Waiting, at, behind_at, calls_at, expanding, items_at, lower_of, no_view, provenance_of, scanning, seen_at, seen_hidden, state_by, state_in, state_of, view_at, waiting, waiting_at}
 use Rattle.sc_expand.proofs.Turning.{put_by-held}
-use Rattle.sc_expand.proofs.RestrictedLists.{never-empty}
+use Rattle.sc_expand.proofs.KeptLemmas.{never-empty}
 use Rattle.sc_expand.specs.FootprintSteps as steps
 use Rattle.sc_expand.specs.Open as open_end
 use Rattle.sc_expand.specs.Running as running

@@ -1,15 +1,15 @@
 -- Configurations that expand one name alike, through a turn: they have the same of what was made,
 -- or come through the name together.
-use Rattle.std.proofs.Common.{◌≡◌, ◌⊎◌, inl, inr, ℕ, zero, suc, ◌+◌, ◌-◌, ◌<◌, ◌≤◌, ◌&&◌, Bool, true, false, true≢false, List, [], ◌∷◌, ◌++◌, All, append-nil, drop, length, length-append, None, Some, slice_get, take, refl, sym, ap, subst, ◌∙◌, arith, if◌then◌else◌}
+use Rattle.std.proofs.Common.{◌≡◌, ◌⊎◌, inl, inr, ℕ, ◌+◌, ◌-◌, ◌<◌, ◌≤◌, ◌&&◌, Bool, true, false, true≢false, List, [], ◌∷◌, ◌++◌, All, append-nil, drop, length, length-append, None, Some, slice_get, take, refl, sym, ap, subst, ◌∙◌, arith, if◌then◌else◌}
 use Rattle.sc_expand.proofs.AlikeLemmas.{AreAlike-Keeps}
 use Rattle.sc_expand.proofs.AlikeRunning.{seen-first}
 use Rattle.sc_expand.proofs.Behind.{below, Fall, behind-falls, below-all, below-not, lower-min}
-use Rattle.sc_expand.proofs.Facts.{All-append, All-cons, All-drop, All-nil, IsConfig-Keeps, IsConfig-kept, and-false, false_from_ne_true, items_at-Keeps, items_at-append, length-map}
+use Rattle.sc_expand.proofs.Facts.{All-append, All-cons, All-drop, All-nil, IsConfig-Keeps, IsConfig-kept, and-false, false_from_ne_true, items_at-Keeps, items_at-append, length-map, nil_from_length, drop-append-le}
 use Rattle.sc_expand.proofs.GatherPlaces.{spelled-behind}
 use Rattle.sc_expand.proofs.NamedItems.{indexes-long, item-all, item-append, item-lacks, item-whole, lacks-alike, same-name-Keeps, same-name-more, first-alone, item-none}
 use Rattle.sc_expand.proofs.PhaseAlike.{IsLast, alike-after, calls-or-last, first-both}
 use Rattle.sc_expand.proofs.PhaseCalls.{below-fewer, function-of, span-count, stays-moves, unclosed-ends, uncalled-case}
-use Rattle.sc_expand.proofs.PhaseKeeps.{more-alike, more-at, more-count, more-has, more-lacks, more-of, more-same, none-long, same-slice, more-first-had, more-idle, more-once}
+use Rattle.sc_expand.proofs.PhaseKeeps.{more-alike, more-at, more-count, more-has, more-lacks, more-of, more-same, same-slice, more-first-had, more-idle, more-once}
 use Rattle.sc_expand.proofs.PhaseLists.{length-seen, slice-drop}
 use Rattle.sc_expand.proofs.PhaseMoves.{ended-state, first-far, first-more, moved-pending, rest-own, takes-pending, has-moved, moved-fits, moved-place, moved-suffix}
 use Rattle.sc_expand.proofs.PhaseSegments.{kept-none}
@@ -29,11 +29,6 @@ use Rattle.sc_expand.specs.Spans as spans
 use Rattle.sc_expand.specs.Turn as turn
 use Rattle.sc_expand.specs.Turn.{EndsBy, IsDecided, held_up, refused}
 use Rattle.sc_expand.specs.Restricted as restricted
-
-drop-more : {A : Type 0} (n : ℕ) (xs ys : List A) → n ≤ length xs → drop n (xs ++ ys) ≡ drop n xs ++ ys
-drop-more zero xs ys le = refl
-drop-more (suc n) [] ys le = absurd (omega (arith, le))
-drop-more (suc n) (x ∷ xs) ys le = drop-more n xs ys (omega (arith, le))
 
 -- a name that is not called fails at no parenthesis of the list
 module _ (provenance : Provenance Place) (macros : Macros) (out rest : List (HiddenToken Place)) (t : HiddenToken Place) where
@@ -110,7 +105,7 @@ module _ (files : List (List ℕ)) (macros : List ℕ → Macros) (names : List 
       ∙ (length-append (seen_at now (put_out e) c) (seen_at new last c) ∙ ap (λ k. length (seen_at now (put_out e) c) + k) (length-map (items_at new.sets last c) (seen_hidden new.names new.hides)))
 
   done-more : drop phase.outs (put_out after) ≡ drop phase.outs (put_out e) ++ last
-  done-more = ap (drop phase.outs) (last-is turned.pushes) ∙ drop-more phase.outs (put_out e) last phase.low
+  done-more = ap (drop phase.outs) (last-is turned.pushes) ∙ drop-append-le phase.outs (put_out e) last phase.low
 
   -- of its own items it has all that it has left
   own-later : (c : List ℕ) → IsConfig old.sets.arities c → last_at new after phase.n c ≡ lower_of (length (seen_at new (bottom after).work c)) (last_at now e phase.n c)
@@ -202,8 +197,8 @@ module _ (files : List (List ℕ)) (macros : List ℕ → Macros) (names : List 
     over-last = by over-cases
       where
         by : (now.sets.has e.refusals.live.0 c ≡ true) ⊎ ((now.sets.has e.refusals.live.0 c ≡ false) × (now.sets.has e.refusals.waiting.0 c ≡ true)) → items_at new.sets last c ≡ []
-        by (inl live) = none-long (items_at new.sets last c) (let is = ap length (over-same live).0 in omega (arith, is, last-long c listed))
-        by (inr w) = none-long (items_at new.sets last c) (let is = ap length (turned.out.apart c (IsConfig-Keeps grows.sets listed) w.0) in omega (arith, is, last-long c listed))
+        by (inl live) = nil_from_length (items_at new.sets last c) (let is = ap length (over-same live).0 in omega (arith, is, last-long c listed))
+        by (inr w) = nil_from_length (items_at new.sets last c) (let is = ap length (turned.out.apart c (IsConfig-Keeps grows.sets listed) w.0) in omega (arith, is, last-long c listed))
 
     over-later : IsOver new after phase.n c
     over-later = record {
@@ -338,7 +333,7 @@ module _ (files : List (List ℕ)) (macros : List ℕ → Macros) (names : List 
             let was_long = ap length (ap (λ f. seen_at now f.work c) at-top ∙ work-is) in
             inr (record {
               over = over-by (let one = ap length kept in omega (arith, left, one, was_long)) (inr waits) (λ alive pending own. absurd (true≢false (sym alive ∙ dead)));
-              put_is = none-long (items_at new.sets last c) (omega (arith, put, last-long c listed));
+              put_is = nil_from_length (items_at new.sets last c) (omega (arith, put, last-long c listed));
               kept_is = kept;
             })
 

@@ -4,13 +4,12 @@ use Rattle.sc_expand.proofs.Behind.{below, below-items, lower-min}
 use Rattle.sc_expand.proofs.Facts.{drop-drop, length-drop, length-map, one-run}
 use Rattle.sc_expand.proofs.NameRuns.{IsInFront, Named, StateRuns}
 use Rattle.sc_expand.proofs.NameUses.{SomeRun, state-runs}
-use Rattle.sc_expand.proofs.PassesLaws.{passes-end, run-same}
+use Rattle.sc_expand.proofs.PassesLaws.{passes-end, run-same, placed-within}
 use Rattle.sc_expand.proofs.PhaseCalls.{below-fewer, items-parted}
 use Rattle.sc_expand.proofs.Phases.{comes-by, item-is, Begins, Comes, HasItem, Phase, at_item, at_start, bound_of, last_at, state_now, tokens_from}
 use Rattle.sc_expand.proofs.PhaseLists.{same-end, take-least}
-use Rattle.sc_expand.proofs.Placed as placed
-use Rattle.sc_expand.proofs.Placed.{placed-within}
-use Rattle.sc_expand.proofs.PlainNames.{Covers, covers-same, covers-then}
+use Rattle.sc_expand.proofs.PassesLaws as placed
+use Rattle.sc_expand.proofs.PlainCompletes.{Covers, covers-same, covers-then}
 use Rattle.sc_expand.proofs.PlainSettles.{InName}
 use Rattle.sc_expand.proofs.Terms.{Cond, End, Expansion, Hidden, HiddenToken, IsConfig, IsPending, IsWithin, Macros, Place, Stores, Uses, behind_at, bottom, case_of, items_at, lower_of, provenance_of, put_out, scanning, seen_at, seen_hidden, stays}
 use Rattle.sc_expand.specs.FootprintSteps as steps

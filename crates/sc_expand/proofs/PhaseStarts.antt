@@ -1,18 +1,18 @@
 -- A phase of an expansion begins: with the whole list, and at each name of it.
-use Rattle.std.proofs.Common.{◌≡◌, ◌⊎◌, inl, inr, ℕ, zero, suc, ◌+◌, ◌-◌, ◌<◌, ◌≤◌, ◌&&◌, Bool, true, false, true≢false, List, [], ◌∷◌, ◌++◌, All, None, Some, drop, length, length-append, map, slice_get, take, refl, sym, ap, subst, ◌∙◌, arith, if◌then◌else◌}
+use Rattle.std.proofs.Common.{◌≡◌, ◌⊎◌, inl, inr, ℕ, zero, suc, ◌+◌, ◌-◌, ◌<◌, ◌≤◌, ◌&&◌, Bool, true, false, true≢false, List, [], ◌∷◌, ◌++◌, All, Some, drop, length, length-append, map, slice_get, take, refl, sym, ap, subst, ◌∙◌, arith, if◌then◌else◌}
 use Rattle.sc_expand.proofs.AlikeLemmas.{AreAlike-Keeps, IsAlike-Keeps}
 use Rattle.sc_expand.proofs.Behind.{Fall, Fall-weaker, behind-falls, below, below-all, below-behind, below-not, lower-bounds, lower-least, lower-min}
 use Rattle.sc_expand.proofs.BottomLemmas.{behind-Keeps, bottom-frame}
 use Rattle.sc_expand.proofs.Facts.{All-append, All-cons, All-drop, All-head, All-nil, All-take, IsConfig-Keeps, IsConfig-kept, and_parts, append-nil, append_assoc, cases_lt, drop-drop, drop_all, items_at-Keeps, length-drop, map-append, take-take, take_all}
 use Rattle.sc_expand.proofs.MachineLemmas.{progress-step}
 use Rattle.sc_expand.proofs.NamedItems.{first-alone, indexes-append, indexes-Keeps, item-all, item-append, item-none, same-name-Keeps, same-name-more}
-use Rattle.sc_expand.proofs.PassesLaws.{passes-end}
+use Rattle.sc_expand.proofs.PassesLaws.{passes-end, IsNext, Placed, away, placed-next}
 use Rattle.sc_expand.proofs.Phases.{come-many, from-later, Begins, Comes, HasItem, IsFresh, IsOver, IsReady, IsWorn, PairStands, Phase, Segments, Settling, Spans, Waiting, as_one, at_item, at_start, bound_of, come_through, indexes_now, last_at, state_now, tokens_from}
 use Rattle.sc_expand.proofs.PhaseKeeps.{all-below, all-fall, fronts-alike, fronts-lack, low-behind, number, numbered, numbered-once, numbered-none, numbered-own, numbered-alike, numbered-behind, numbered-idle, numbered-indexes, numbered-is, numbered-lacks, numbered-later, numbers-first, numbers-same}
 use Rattle.sc_expand.proofs.PhaseLists.{alike-behind, below-from, below-same, first-had, length-seen, same-end, seen-drop, seen-name, take-least}
 use Rattle.sc_expand.proofs.PhaseMoves.{first-more}
 use Rattle.sc_expand.proofs.PhaseSegments.{bottom-is, held-drop, held-take, out-is, own-few, phase-segments, puts-as, segments-Grows, segments-kept, settles-on, stands, state-is}
-use Rattle.sc_expand.proofs.Placed.{IsNext, Placed, away, placed-next}
+use Rattle.sc_expand.proofs.Rests.{none-some}
 use Rattle.sc_expand.proofs.RunLemmas.{IsRunning, rests-at, running-apart, running-stands, start-state, told-apart}
 use Rattle.sc_expand.proofs.SeenLemmas.{seen_at-Grows}
 use Rattle.sc_expand.proofs.Terms.{AreAlike, AreAlikeFaults, AreHeld, Call, Cond, Enclosing, Expansion, Fault, Frame, Grows, Hidden, HiddenToken, IsAlike, IsAlikeCall, IsAlikeEnclosing, IsAlikeExpansion, IsAlikeFrame, IsCond, IsConfig, IsHeldExpansion, IsPending, IsRested, IsUncalled, IsUntouched, KeepsGone, Macros, Others, Passes, Place, Refusals, Sets, State, Stores, begins, behind_at, bottom, bottom_by, items_at, lower_of, others_at, provenance_of, put_by, put_out, scanning, seen_at, seen_hidden}
@@ -404,9 +404,6 @@ not-first : (a b : Bool) → (a && b) ≡ false → b ≡ true → a ≡ false
 not-first true b is live = absurd (true≢false (sym live ∙ is))
 not-first false b is live = refl
 
-never-some : {A : Type 0} (x : A) → None ≡ Some x → ⊥
-never-some x is = cc
-
 module _ {files : List (List ℕ)} {macros : List ℕ → Macros} {old now : Stores} {was e : Expansion}
     (r : IsRunning files macros old now was e) (phase : Phase files macros old now was e)
     (none : e.below.items ≡ []) (uncalled : e.top.calls.items ≡ []) (item : Cond × Hidden) (rest : List (Cond × Hidden)) (work : e.top.work ≡ item ∷ rest) (near : length e.top.work ≤ phase.n) where
@@ -560,7 +557,7 @@ module _ {files : List (List ℕ)} {macros : List ℕ → Macros} {old now : Sto
       out = subst (AreAlike now.sets c d) (sym (drop_all (length e.top.out) e.top.out (omega arith))) (All-nil P);
       calls = subst (All (IsAlikeCall now.sets c d)) (sym uncalled) (All-nil (IsAlikeCall now.sets c d));
     });
-    below = λ n o is. absurd (never-some o (sym (ap (λ (bs : List Enclosing). slice_get bs n) none) ∙ is));
+    below = λ n o is. absurd (none-some (sym (ap (λ (bs : List Enclosing). slice_get bs n) none) ∙ is));
   }
     where
       P : Cond × Hidden → Type 0

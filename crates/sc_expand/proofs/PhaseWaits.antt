@@ -3,14 +3,13 @@ use Rattle.std.proofs.Common.{◌≡◌, ◌∙◌, ℕ, ◌≤◌, Bool, true, 
 use Rattle.sc_expand.proofs.Behind.{behind-falls, below, below-behind}
 use Rattle.sc_expand.proofs.Facts.{All-append, IsConfig-Keeps, IsConfig-kept, append_cancel_left, drop-drop, drop-map, false_from_ne_true, length-drop, length-map, map-append, take-append-drop}
 use Rattle.sc_expand.proofs.WorkListLemmas.{behind-drop}
-use Rattle.sc_expand.proofs.PassesLaws.{none-behind}
+use Rattle.sc_expand.proofs.PassesLaws.{none-behind, placed-within}
 use Rattle.sc_expand.proofs.Phases.{come-many, comes-by, from-later, item-is, Begins, Comes, IsReady, Phase, Segments, Waiting, WaitsHere, at_item, at_start, indexes_now, last_at, state_now, tokens_from}
 use Rattle.sc_expand.proofs.PhaseKeeps.{more-at, more-idle, more-is, more-of, number, numbers-parts, waits-turned}
 use Rattle.sc_expand.proofs.PhaseLists.{length-seen, same-drop}
 use Rattle.sc_expand.proofs.PhaseMoves.{ended-state, first-far, first-out, held-first, start-later, state-bottom, takes-pending}
 use Rattle.sc_expand.proofs.PhaseSegments.{indexes-none, puts-as, segments-Grows, segments-kept}
-use Rattle.sc_expand.proofs.Placed as placed
-use Rattle.sc_expand.proofs.Placed.{placed-within}
+use Rattle.sc_expand.proofs.PassesLaws as placed
 use Rattle.sc_expand.proofs.PlainSettles.{HasWaited, has-waited, no-waits}
 use Rattle.sc_expand.proofs.RunLemmas.{IsRunning, bottom-state, running-apart, running-stands, turned-at}
 use Rattle.sc_expand.proofs.SeenLemmas.{seen_at-append}

@@ -1,9 +1,8 @@
 -- Tables that define the names alike that an expansion looks up make the same steps.
 use Rattle.std.proofs.Common.{◌≡◌, ℕ, Bool, true, false, List, [], ◌∷◌, ◌++◌, Result, Ok, Err, refl, sym, ap, ◌∙◌, subst, if◌then◌else◌}
 use Rattle.c11_macros.specs.Expansion as expansion
-use Rattle.sc_expand.proofs.PlainCompletes.{Completes, ends, looked, refuses, resumes, scanned}
+use Rattle.sc_expand.proofs.PlainCompletes.{Completes, ends, looked, refuses, resumes, scanned, Covers, covers-front, covers-same, covers-then}
 use Rattle.sc_expand.proofs.PlainMoves.{move-back}
-use Rattle.sc_expand.proofs.PlainNames.{Covers, covers-front, covers-same, covers-then}
 use Rattle.sc_expand.proofs.PlainTurns.{Pending, under}
 use Rattle.sc_expand.proofs.Terms.{Agree, Expands, Failure, HiddenToken as Hidden, IsWithin, Leads, Macros, Moves, Provenance, State, Waiting, case_of, defined_case, expanding, is_looked_up, looked_up_at, looked_up_case, no_step, scanning, step, trace, trace_each, trace_rescan, waiting, with_expanded}
 use Rattle.sc_expand.specs.Plain as plain

@@ -2,8 +2,7 @@
 use Rattle.std.proofs.Common.{◌≡◌, ℕ, ◌*◌, ◌<◌, true, List, [], ◌∷◌, ◌++◌, append_assoc, append-nil, map, is_ok, Result, Ok, Err, refl, sym, ap, ◌∙◌, subst, arith, if◌then◌else◌}
 use Rattle.c11_macros.specs.Expansion as expansion
 use Rattle.sc_expand.proofs.PlainArguments.{replaced_with, supplied}
-use Rattle.sc_expand.proofs.PlainCompletes.{Completes, asks, looked, refuses, replaces, resumes, scanned, scans, steps}
-use Rattle.sc_expand.proofs.PlainNames.{Covers, covers-back, covers-both, covers-front, covers-same, covers-then}
+use Rattle.sc_expand.proofs.PlainCompletes.{Completes, asks, looked, refuses, replaces, resumes, scanned, scans, steps, Covers, covers-back, covers-both, covers-front, covers-same, covers-then}
 use Rattle.sc_expand.proofs.Terms.{Definition, Each, Expands, Fails, Failure, HiddenToken as Hidden, IsTemplate, Macros, Moves, Provenance, Rescans, Slot, State, Trace, UnterminatedCall, Waiting, WrongArguments, after_these, argument, asked, call_result, called, case_of, expanding, failure_at, gathered, list_of, list_slots, looked_up_at, meet, no_trace, none, object_result, on, put_together, refused, replacement_of, result_and_then, scanning, trace, trace_each, trace_rescan, waiting, wanted_of, with_expanded, with_first, with_name}
 use Rattle.sc_expand.specs.Plain as plain
 

@@ -1,15 +1,14 @@
 -- What drops out of the frame on top, with all that is next for refused configurations alone, and
 -- what does not: no configuration that was not refused moves.
-use Rattle.std.proofs.Common.{◌≡◌, ℕ, zero, suc, ◌-◌, ◌&&◌, Bool, true, false, true≢false, List, [], ◌∷◌, ◌++◌, All, drop, length, map, take, length-append, append-nil, Option, Some, None, slice_get, refl, sym, ap, subst, ◌∙◌, arith}
+use Rattle.std.proofs.Common.{◌≡◌, ℕ, zero, suc, ◌-◌, ◌&&◌, Bool, true, false, true≢false, List, [], ◌∷◌, ◌++◌, All, drop, length, map, take, length-append, append-nil, Option, Some, None, slice_get, refl, sym, ap, subst, ◌∙◌, arith, ◌+◌, MatchOption, option_to_list, is_some}
 use Rattle.sc_expand.proofs.AlikeLemmas.{All-at, All-but-tail, IsAlikeExpansion-Keeps, enclosing-last, enclosing-others}
 use Rattle.sc_expand.proofs.BottomLemmas.{behind-Keeps, behind-other, bottom-held, bottom-less, bottom-same}
 use Rattle.sc_expand.proofs.Facts.{All-head, All-pop, All-tail, IsConfig-Keeps, IsConfig-kept, Keeps-refl, cond-false, false_from_ne_true, slice_get-seam}
-use Rattle.sc_expand.proofs.KeptLemmas.{gone-first, gone-nothing, gone-then}
+use Rattle.sc_expand.proofs.KeptLemmas.{gone-first, gone-nothing, gone-then, never-empty, not-both}
 use Rattle.sc_expand.proofs.MachineCalls.{calls_at-append, leave-other}
 use Rattle.sc_expand.proofs.MachineLemmas.{Stands-Grows, state_in-Grows}
 use Rattle.sc_expand.proofs.SeenLemmas.{AreHeld-tail, Grows-refl, Grows-trans, IsHeldExpansion-Grows, at-Grows}
 use Rattle.sc_expand.proofs.Terms.{AreAlike, AreAlikeRefusals, AreHeld, At, Call, Cond, Denotes, Enclosing, EndsBy, Expansion, Frame, Grows, Hidden, IsAlike, IsAlikeCall, IsAlikeEnclosing, IsAlikeFrame, IsCond, IsConfig, IsDropped, IsHeldCall, IsHeldEnclosing, IsHeldExpansion, IsHeldFrame, IsHeldRefusals, IsNever, IsReady, IsRested, Keeps, KeepsFirst, Macros, Moves, Place, Progress, Provenance, Sets, Stands, Stores, Waits, at, behind_at, bottom, bottom_by, calls_at, ends, ends_at, gone, items_at, last_of, next_by, next_of, others_at, put_by, rests, seen_at, seen_hidden, state_in, steps, view_at, waiting_at, with_end}
-use Rattle.sc_expand.proofs.RestrictedLists.{never-empty, not-both}
 use Rattle.sc_expand.proofs.WaitingLemmas.{kept-held, kept-later}
 use Rattle.sc_expand.specs.Running as running
 use Rattle.sc_expand.specs.Waiting as waiting
@@ -38,6 +37,9 @@ next-argument e below o none empty is =
 
 pub some-same : {A : Type 0} {x y : A} → Some x ≡ Some y → x ≡ y
 some-same is = cc
+
+pub none-some : {A : Type 0} {x : A} → None ≡ Some x → ⊥
+none-some is = cc
 
 pub first-is : {A : Type 0} (xs : List A) (x : A) → slice_get xs 0 ≡ Some x → xs ≡ x ∷ drop 1 xs
 first-is [] x is = cc
@@ -323,3 +325,42 @@ never-at {old} {new} keeps a b met own other both never c listed has live =
     let first : old.has a.0 c ≡ true = sym (keeps.at a.0 c own was) ∙ has in
     let second : old.has b.0 c ≡ true = sym (keeps.at b.0 c other was) ∙ live in
     true≢false ((λ i. sym first i && sym second i) ∙ (sym (both.at c listed) ∙ never.none c listed))
+
+-- ---- what is next drops out
+
+-- where nothing was popped, there is nothing
+pub record IsNone (A : Type 0) (xs ys : List A) : Type 0 where
+  pub before : xs ≡ []
+  pub after : ys ≡ []
+
+pub none-popped : {A : Type 0} (xs ys : List A) (n m : ℕ) (r : Option A) → xs ≡ ys ++ option_to_list r → ys ≡ take (n - 1) xs → MatchOption r ((n ≡ 0) × (m ≡ 0)) (λ x. m + 1 ≡ n) → is_some r ≡ false → IsNone A xs ys
+none-popped xs ys n m None is rest empty lacks =
+    let none : ys ≡ [] = rest ∙ ap (λ k. take (k - 1) xs) empty.0 in
+    record { before = is ∙ (append-nil ys ∙ none); after = none }
+none-popped xs ys n m (Some x) is rest empty lacks = absurd (cc)
+
+pub not-some : {A : Type 0} (r : Option A) → ((x : A) → r ≡ Some x → ⊥) → is_some r ≡ false
+not-some None lacks = refl
+not-some (Some x) lacks = absurd (lacks x refl)
+
+module _ {old new : Sets} (e after : Expansion) where
+  pub dropped-call : (r : Option Call) → e.top.calls.items ≡ after.top.calls.items ++ option_to_list r → is_some r ≡ true
+      → after.top.work ≡ e.top.work → after.top.out ≡ e.top.out → after.below ≡ e.below → after.rest ≡ e.rest → IsDropped old new e after
+  dropped-call (Some k) is found work out below rest = running.call k is work out below rest
+  dropped-call None is found work out below rest = absurd (cc)
+
+  pub dropped-token : (first : Option (Cond × Hidden)) → IsNone Call e.top.calls.items after.top.calls.items → first ≡ slice_get e.top.work 0 → is_some first ≡ true → after.top.work ≡ drop 1 e.top.work → after.top.out ≡ e.top.out
+      → after.below ≡ e.below → KeepsFirst old new e.refusals.waiting.0 e.below.items e.top.work e.rest after.rest → IsDropped old new e after
+  dropped-token first none is found work out below kept_first = by e.top.work first is found refl work
+    where
+      by : (was : List (Cond × Hidden)) (first : Option (Cond × Hidden)) → first ≡ slice_get was 0 → is_some first ≡ true → e.top.work ≡ was → after.top.work ≡ drop 1 was → IsDropped old new e after
+      by [] first is found was work = let lacks : is_some first ≡ false = ap (λ (r : Option (Cond × Hidden)). is_some r) is in absurd (cc)
+      by (item ∷ rest) first is found was work = running.token item none.before none.after (was ∙ ap (λ l. item ∷ l) (sym work)) out below kept_first
+
+pub no-first : (work : List (Cond × Hidden)) (first : Option (Cond × Hidden)) → first ≡ slice_get work 0 → is_some first ≡ false → work ≡ []
+no-first [] first is lacks = refl
+no-first (item ∷ rest) first is lacks = let found : is_some first ≡ true = ap (λ (r : Option (Cond × Hidden)). is_some r) is in absurd (cc)
+
+pub dropped-argument : {old new : Sets} (e after : Expansion) (calls : List Call) (first : Option (Cond × Hidden)) (o : Enclosing) → IsNone Call e.top.calls.items calls → first ≡ slice_get e.top.work 0 → is_some first ≡ false
+    → e.below.items ≡ after.below.items ++ option_to_list (Some o) → after.top ≡ o.frame → after.rest ≡ e.rest → IsDropped old new e after
+dropped-argument e after calls first o none is lacks below top rest = running.argument o none.before (no-first e.top.work first is lacks) below top rest

@@ -8,7 +8,7 @@ use Rattle.sc_expand.proofs.Facts.{drop_at, halts, last-stays, leaves-source, le
 use Rattle.sc_expand.proofs.Behind.{lower-min}
 use Rattle.sc_expand.proofs.NameRuns.{leaves-one}
 use Rattle.sc_expand.proofs.PassesLaws.{over-source}
-use Rattle.sc_expand.proofs.PlainNames.{Covers, covers-back, covers-both, covers-front, covers-same, covers-then}
+use Rattle.sc_expand.proofs.PlainCompletes.{Covers, covers-back, covers-both, covers-front, covers-same, covers-then}
 use Rattle.sc_expand.proofs.Terms.{Arrives, Definition, Each, End, Expands, Failure, Footprint, HiddenToken as Hidden, IsWithin, Leaves, Macros, Passes, Provenance, Rescans, Runs, Use, Uses, asked, call_result, called, case_of, fails, footprint, footprint_from, is_last_name, looked_up_at, lower_of, next, no_uses, none, object_result, on, over, refused, replaced, stops, then_uses, trace, trace_each, trace_rescan, using, waits, with_names}
 
 -- ---- footprints of what was used

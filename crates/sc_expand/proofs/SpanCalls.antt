@@ -1,7 +1,7 @@
 -- What the first items of a list tell of the call of the name that stands first, where two
 -- configurations have the same of them.
 use Rattle.std.proofs.Common.{◌≡◌, ◌⊎◌, inl, inr, ℕ, zero, suc, ◌+◌, ◌<◌, ◌≤◌, Bool, true, false, List, [], ◌∷◌, ◌++◌, codes, drop, length, map, take, refl, sym, ap, ◌∙◌, arith, Option, Some, None, if◌then◌else◌}
-use Rattle.sc_expand.proofs.AlikeFilling.{items_at-alike}
+use Rattle.sc_expand.proofs.AlikeLemmas.{items_at-alike}
 use Rattle.sc_expand.proofs.Facts.{All-drop, All-head, All-tail, length-map, take-append-le}
 use Rattle.sc_expand.proofs.Terms.{AreAlike, Cond, Hidden, IsAlike, IsSameCall, Role, Sets, Token, bare, call_end, call_end_at, call_length, call_places, closed, closing, closing_at, closing_step, comma, items_at, opened_end, opened_length, opening, option_map, other, places_from, role_of, same_bytes, spelled_at, still, text_at, tokens_in}
 

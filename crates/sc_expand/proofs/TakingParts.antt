@@ -5,7 +5,7 @@ use Rattle.sc_expand.proofs.AlikeTaking.{part-alike, part-each}
 use Rattle.sc_expand.proofs.Facts.{IsConfig-Keeps, items_at-append, seen_definition-Extends, slice_get-map, take_more}
 use Rattle.sc_expand.proofs.TakingSteps.{lists-same, lists-then, has_first-Keeps, none-before, same-step}
 use Rattle.sc_expand.proofs.SeenLemmas.{at-Grows, seen_hidden-Grows}
-use Rattle.sc_expand.proofs.TakenLemmas.{taken-each, taken-earlier, taken-later}
+use Rattle.sc_expand.proofs.WorkListLemmas.{taken-each, taken-earlier, taken-later}
 use Rattle.sc_expand.proofs.Terms.{AreHeld, AreTaken, At, Comes, Cond, Denotes, Expansion, Extends, Grows, HasTaken, HiddenToken as Hidden, IsCond, IsConfig, IsFunctionLike, IsHeldDefinition, IsHeldExpansion, IsHeldTaken, IsHeldToken, IsTaken, Macros, Place, Rc, Sets, Step, Stores, Taken, TakesPart, at, items_at, option_map, provenance_of, seen_at, seen_definition, seen_hidden, step_at, text_of, untaken}
 use Rattle.sc_macro.specs.declared.definition.Definition.{Definition}
 use Rattle.sc_subst.specs.declared.hidden.Hidden as declared

@@ -1,9 +1,9 @@
 -- What taking a name comes to, by what its parts did.
-use Rattle.std.proofs.Common.{refl, ◌∙◌, ◌≡◌, ◌∷◌, ◌++◌, ◌&&◌, ℕ, Bool, true, false, List, [], All, None, Some, Result, Ok, Err, ap, sym, subst, length, take, get_or, zero, suc, ◌<◌, true≢false, map, append-nil, ◌≤◌, arith, if◌then◌else◌, OnOk}
+use Rattle.std.proofs.Common.{refl, ◌∙◌, ◌≡◌, ◌∷◌, ◌++◌, ◌&&◌, ℕ, Bool, true, false, List, [], All, None, Some, Result, Ok, Err, ap, sym, subst, length, take, get_or, zero, suc, ◌<◌, true≢false, map, append-nil, ◌≤◌, arith, if◌then◌else◌, OnOk, codes, Option, is_some}
+use Rattle.c11_macros.specs.Call.{Call, call_of}
 use Rattle.c11_macros.specs.Expansion as expansion
 use Rattle.sc_expand.proofs.Facts.{All-head, and-false, last-stays}
-use Rattle.sc_expand.proofs.PlainCases.{case-object}
-use Rattle.sc_expand.proofs.Terms.{Expansion, KeepsLists, Case, Comes, Cond, Definition, Failure, Form, Gathers, HiddenToken as Hidden, IsCond, IsConfig, Keeps, Macros, Place, Provenance, Replaces, Sets, Step, Stores, View, called, case_of, function_like, has_first, is_function_like, is_function_named, is_last_name, is_looked_up, items_at, misfit, object_like, object_result, replaced, seen_at, seen_hidden, state_by, state_of, unclosed}
+use Rattle.sc_expand.proofs.Terms.{Expansion, KeepsLists, Case, Comes, Cond, Definition, Failure, Form, Gathers, HiddenToken as Hidden, IsCond, IsConfig, Keeps, Macros, Place, Provenance, Replaces, Sets, Step, Stores, View, called, case_of, function_like, has_first, is_function_like, is_function_named, is_last_name, is_looked_up, items_at, misfit, object_like, object_result, replaced, seen_at, seen_hidden, state_by, state_of, unclosed, Rest, call_case, defined_case, form_case, looked_up_case, same_bytes, stays}
 use Rattle.sc_expand.specs.Gather as gathers
 use Rattle.sc_expand.specs.Open.{Waits, alone, open_call}
 use Rattle.sc_expand.specs.Plain.{Moves, State, Waiting, bad_object, gather, gathered, object, scanning, stay}
@@ -11,6 +11,42 @@ use Rattle.sc_expand.specs.Taking as taking
 use Rattle.sc_expand.specs.Turn as turn
 use Rattle.sc_expand.specs.Turn.{At, EndsBy, IsDecided, Turn, ended, fails, moved, refused, waits}
 use Rattle.sc_subst.specs.declared.hidden.Hidden as declared
+
+module _ {P : Type 0} (macros : Macros) (t : Hidden P) where
+  pub case-hidden : (rest : List (Hidden P)) → is_looked_up t ≡ false → case_of macros t rest ≡ stays
+  case-hidden rest not = ap (λ b. looked_up_case macros b t.spelling rest) not
+
+  -- a name as its definition says
+  pub case-defined : (rest : List (Hidden P)) (o : Option Definition) → is_looked_up t ≡ true → macros t.spelling ≡ o → case_of macros t rest ≡ defined_case o rest
+  case-defined rest o looked is = ap (λ b. looked_up_case macros b t.spelling rest) looked ∙ ap (λ o. defined_case o rest) is
+
+  pub case-undefined : (rest : List (Hidden P)) → is_looked_up t ≡ true → macros t.spelling ≡ None → case_of macros t rest ≡ stays
+  case-undefined rest looked is = case-defined rest None looked is
+
+  module _ (d : Definition) (looked : is_looked_up t ≡ true) (is : macros t.spelling ≡ Some d) where
+    pub case-formed : (rest : List (Hidden P)) (form : Form) → d.form ≡ form → case_of macros t rest ≡ form_case d form rest
+    case-formed rest form formed = case-defined rest (Some d) looked is ∙ ap (λ f. form_case d f rest) formed
+
+    pub case-object : (rest : List (Hidden P)) → d.form ≡ object_like → case_of macros t rest ≡ replaced d
+    case-object rest formed = case-formed rest object_like formed
+
+    module _ (parameters : List (List ℕ)) (variadic : Option Rest) (formed : d.form ≡ function_like parameters variadic) where
+      -- nothing follows the name
+      pub case-alone : case_of macros t [] ≡ stays
+      case-alone = case-formed [] (function_like parameters variadic) formed
+
+      -- another token than ( follows it
+      pub case-bare : (u : Hidden P) (us : List (Hidden P)) → same_bytes u.spelling (codes "(") ≡ false → case_of macros t (u ∷ us) ≡ stays
+      case-bare u us other = case-formed (u ∷ us) (function_like parameters variadic) formed ∙ ap (λ b. if b then call_case d parameters (is_some variadic) (call_of (length parameters) zero us) else stays) other
+
+      module _ (u : Hidden P) (us : List (Hidden P)) (opens : same_bytes u.spelling (codes "(") ≡ true) where
+        pub case-call : (o : Option (Call P)) → call_of (length parameters) zero us ≡ o → case_of macros t (u ∷ us) ≡ call_case d parameters (is_some variadic) o
+        case-call o call =
+            case-formed (u ∷ us) (function_like parameters variadic) formed
+            ∙ (ap (λ b. if b then call_case d parameters (is_some variadic) (call_of (length parameters) zero us) else stays) opens ∙ ap (call_case d parameters (is_some variadic)) call)
+
+        pub case-open : call_of (length parameters) zero us ≡ None → case_of macros t (u ∷ us) ≡ unclosed
+        case-open none = case-call None none
 
 pub on-ok : {A E P Q : Type 0} (r : Result A E) → (P → Q) → OnOk r P → OnOk r Q
 on-ok (Ok a) f h = f h
@@ -63,24 +99,24 @@ module _ (macros : Macros) (out : List (Hidden Place)) (t : Hidden Place) (rest 
   decided-called d arguments close after is = decided-by (called d arguments close after) is (λ no. cc) (λ no. cc)
 
 module _ (provenance : Provenance Place) (macros : Macros) (t : Hidden Place) (rest : List (Hidden Place)) where
-  pub object-comes : (d : Definition) (a b : At) (before after : List (Hidden Place)) (first stays : Bool) → is_looked_up t ≡ true → macros t.spelling ≡ Some d → is_function_like d.form ≡ false
-      → a.view.work ≡ t ∷ rest → a.view.calls ≡ [] → before ≡ [] → first ≡ true → stays ≡ false → Replaces (object_result provenance d t) a b before after
-      → Comes provenance macros t rest a (record { at = b; first = first; stays = stays; made = after })
-  object-comes d a b before after first stays looked is formed work calls none f s (taking.put_in body ok same made) =
+  pub object-comes : (d : Definition) (a b : At) (before after : List (Hidden Place)) (first still : Bool) → is_looked_up t ≡ true → macros t.spelling ≡ Some d → is_function_like d.form ≡ false
+      → a.view.work ≡ t ∷ rest → a.view.calls ≡ [] → before ≡ [] → first ≡ true → still ≡ false → Replaces (object_result provenance d t) a b before after
+      → Comes provenance macros t rest a (record { at = b; first = first; stays = still; made = after })
+  object-comes d a b before after first still looked is formed work calls none f s (taking.put_in body ok same made) =
       taking.put d body (case-object macros t d looked is rest (object-form d.form formed)) ok (same-step same f s (made ∙ ap (λ l. l ++ body) none))
-  object-comes d a b before after first stays looked is formed work calls none f s (taking.refused failure err live ends) =
+  object-comes d a b before after first still looked is formed work calls none f s (taking.refused failure err live ends) =
       let case = case-object macros t d looked is rest (object-form d.form formed) in
       let here = state-scanning a.view (t ∷ rest) work calls in
       taking.ended (fails failure) (subst (λ s. EndsBy provenance macros a.whole s (fails failure)) here (refused failure (bad_object a.view.out rest t d failure case err) (λ whole. decided-object macros a.view.out t rest d case)))
       (record { live = live; ends = ends; view = λ no. absurd (no-wait no) }) (λ no. absurd (no-wait no))
 
-  pub called-comes : (a b now : At) (uncalled first stays : Bool) (made : List (Hidden Place)) → now ≡ b → a.live ≡ true → (b.live ≡ true → first ≡ uncalled) → stays ≡ uncalled → made ≡ []
-      → Gathers provenance macros t rest a b uncalled → Comes provenance macros t rest a (record { at = now; first = first; stays = stays; made = made })
-  called-comes a b now uncalled first stays made is live f s m (gathers.uncalled case last same) =
+  pub called-comes : (a b now : At) (uncalled first still : Bool) (made : List (Hidden Place)) → now ≡ b → a.live ≡ true → (b.live ≡ true → first ≡ uncalled) → still ≡ uncalled → made ≡ []
+      → Gathers provenance macros t rest a b uncalled → Comes provenance macros t rest a (record { at = now; first = first; stays = still; made = made })
+  called-comes a b now uncalled first still made is live f s m (gathers.uncalled case last same) =
       taking.kept case last (same-step (is ∙ same) (f (ap (λ (x : At). x.live) same ∙ live)) s m)
-  called-comes a b now uncalled first stays made is live f s m (gathers.taken_out d arguments close after template case stands same) =
+  called-comes a b now uncalled first still made is live f s m (gathers.taken_out d arguments close after template case stands same) =
       taking.taken_out d arguments close after template case stands (same-step (is ∙ same) (f (ap (λ (x : At). x.live) same ∙ live)) s m)
-  called-comes a b now uncalled first stays made is live f s m (gathers.ended end ends e) =
+  called-comes a b now uncalled first still made is live f s m (gathers.ended end ends e) =
       taking.ended end ends (record { live = ap (λ (x : At). x.live) is ∙ e.live; ends = ap (λ (x : At). x.ends) is ∙ e.ends; view = λ w. ap (λ (x : At). x.view) is ∙ e.view w }) (λ w. (s, m))
 
 -- ---- the end of a turn

@@ -1,14 +1,12 @@
 -- A turn that takes the first token of a list, by what taking the token comes to.
 use Rattle.std.proofs.Common.{◌≡◌, ◌∙◌, ◌∷◌, ◌++◌, ◌&&◌, ℕ, Bool, true, false, List, [], All, Some, ap, refl, sym, subst, length, drop, map, append-nil, arith, true≢false, if◌then◌else◌, slice_get}
 use Rattle.sc_expand.proofs.Facts.{All-drop, All-head, Denotes-self, Extends-refl, IsConfig-Keeps, IsConfig-kept, and_parts, and_right, length-map}
-use Rattle.sc_expand.proofs.WorkListLemmas.{last-earlier, has_each-Keeps}
-use Rattle.sc_expand.proofs.PuttingOut.{pushed-held, pushed-seen}
+use Rattle.sc_expand.proofs.WorkListLemmas.{last-earlier, has_each-Keeps, first-still}
+use Rattle.sc_expand.proofs.WaitingLemmas.{pushed-held, pushed-seen, kept-held}
 use Rattle.sc_expand.proofs.Rests.{first-is}
 use Rattle.sc_expand.proofs.SeenLemmas.{AreHeld-append, at-Grows, macros_at-Grows, seen_at-Grows, seen_at-append, seen_hidden-Grows, token-Grows}
-use Rattle.sc_expand.proofs.TakenLemmas.{first-still}
 use Rattle.sc_expand.proofs.TakingSteps.{Ends, comes-turn, comes-waits, has_first-Keeps, same-step, seen-first}
 use Rattle.sc_expand.proofs.Terms.{AreHeld, Comes, Cond, Denotes, Expansion, Grows, HasPutOut, HiddenToken as Hidden, IsApart, IsBegun, IsCond, IsConfig, IsHeldCall, IsHeldEnclosing, IsHeldExpansion, IsHeldRefusals, IsHeldTaken, IsHeldToken, IsTable, Keeps, MacroTable, Macros, Place, Provenance, Sets, Step, Stores, Taken, Takes, View, at, calls_at, ends_at, has_first, items_at, macros_at, provenance_of, seen_at, seen_hidden, step_at, stores, text_of, untaken}
-use Rattle.sc_expand.proofs.WaitingLemmas.{kept-held}
 use Rattle.sc_expand.specs.Turn.{At, Turn, over, passed}
 use Rattle.sc_subst.specs.declared.hidden.Hidden as declared
 

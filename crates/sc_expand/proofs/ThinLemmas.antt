@@ -2,8 +2,8 @@
 use Rattle.std.proofs.Common.{◌≡◌, inl, inr, ℕ, zero, suc, ◌-◌, ◌<◌, ◌&&◌, Bool, true, false, true≢false, List, [], ◌∷◌, ◌++◌, append-nil, drop, length, map, Option, Some, None, slice_get, refl, sym, ap, subst, ◌∙◌, arith, if◌then◌else◌}
 use Rattle.c11_macros.specs.Runs.{End, Runs, Uses, alone, bad_call, bad_count, bad_object, call, is_function_named, is_last_name, no_uses, object, open_call, stay, used_up}
 use Rattle.sc_expand.proofs.Behind.{length-behind}
-use Rattle.sc_expand.proofs.Facts.{All-head, All-nil, All-tail, map-append, slice_get-front, slice_get_within}
-use Rattle.sc_expand.proofs.PhaseKeeps.{none-long, same-slice}
+use Rattle.sc_expand.proofs.Facts.{All-head, All-nil, All-tail, map-append, slice_get-front, slice_get_within, nil_from_length}
+use Rattle.sc_expand.proofs.PhaseKeeps.{same-slice}
 use Rattle.sc_expand.proofs.Terms.{Agree, AreAlike, Cond, Definition, Form, HiddenToken as Hidden, InSegments, IsAlike, IsConfig, IsSameName, IsSettling, IsSpan, Macros, Provenance, Sets, behind, behind_at, case_of, defined_case, form_case, function_like, is_function_like, is_looked_up, items_at, looked_up_at, looked_up_case, object_like, of_item, stays}
 use Rattle.sc_expand.specs.Spans as spans
 use Rattle.sc_expand.specs.Thin.{InSpan, IsNth, IsThin, Stays}
@@ -19,7 +19,7 @@ same-front xs ys zs n i j none one other =
 module _ {T : Type 0} (s : Sets) where
   none-nth : (c : List ℕ) (list : List (Cond × T)) → items_at s list c ≡ [] → (n i : ℕ) → IsNth s list c n i → ⊥
   none-nth c list none n i is =
-      let empty = none-long (behind_at s list c) (length-behind s c list ∙ ap length none) in
+      let empty = nil_from_length (behind_at s list c) (length-behind s c list ∙ ap length none) in
       let at = sym (ap (λ l. slice_get (map (λ (m : ℕ). length list - suc m) l) n) empty) ∙ is in
       cc
 
@@ -44,7 +44,7 @@ module _ {T : Type 0} (s : Sets) where
   nth-ahead c d list first last is alike none n i j p q =
       let r = behind-front c d first last alike in
       let f : ℕ → ℕ = λ m. length (first ++ last) - suc m in
-      let empty = none-long (behind_at s last d) (length-behind s d last ∙ ap length none) in
+      let empty = nil_from_length (behind_at s last d) (length-behind s d last ∙ ap length none) in
       same-front (map f r.0) (map f (behind_at s last c)) (map f (behind_at s last d)) n i j (ap (map f) empty)
       (ap (λ l. slice_get l n) (sym (map-append f r.0 (behind_at s last c)) ∙ ap (map f) (sym r.1)) ∙ subst (λ l. IsNth s l c n i) is p)
       (ap (λ l. slice_get l n) (sym (map-append f r.0 (behind_at s last d)) ∙ ap (map f) (sym r.2)) ∙ subst (λ l. IsNth s l d n j) is q)
@@ -54,7 +54,7 @@ module _ {T : Type 0} (s : Sets) where
 
   nth-first : (c : List ℕ) (list : List (Cond × T)) → items_at s (drop 1 list) c ≡ [] → (n i : ℕ) → IsNth s list c n i → i ≡ 0
   nth-first c [] none n i p = absurd (cc)
-  nth-first c (z ∷ zs) none n i p = by (s.has z.0.0 c) (none-long (behind_at s zs c) (length-behind s c zs ∙ ap length none)) n p
+  nth-first c (z ∷ zs) none n i p = by (s.has z.0.0 c) (nil_from_length (behind_at s zs c) (length-behind s c zs ∙ ap length none)) n p
     where
       by : (b : Bool) → behind_at s zs c ≡ [] → (n : ℕ) → slice_get (map (λ m. suc (length zs) - suc m) (if b then length zs ∷ behind_at s zs c else behind_at s zs c)) n ≡ Some i → i ≡ 0
       by true empty zero p = let first : suc (length zs) - suc (length zs) ≡ i = cc in omega (arith, first)

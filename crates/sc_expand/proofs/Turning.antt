@@ -1,16 +1,15 @@
 -- A turn of the loop, by what it takes.
 use Rattle.std.proofs.Common.{◌≡◌, inl, inr, ℕ, suc, ◌≤◌, Bool, true, false, true≢false, List, [], ◌∷◌, ◌++◌, All, length, append-nil, Option, Some, None, option_to_list, slice_get, refl, sym, ap, subst, ◌∙◌, arith, if◌then◌else◌}
-use Rattle.sc_expand.proofs.AlikeFilling.{alike-leave}
+use Rattle.sc_expand.proofs.AlikeLemmas.{alike-leave}
 use Rattle.sc_expand.proofs.BottomLemmas.{bottom-held, bottom-less, bottom-same, more-none}
-use Rattle.sc_expand.proofs.Dropping.{IsNone}
+use Rattle.sc_expand.proofs.Rests.{IsNone, next-argument, next-call, put-less, put-same, some-same, none-some}
 use Rattle.sc_expand.proofs.Facts.{All-head, All-pop, IsConfig-Keeps}
 use Rattle.sc_expand.proofs.MachineCalls.{calls_at-append, last-alone}
-use Rattle.sc_expand.proofs.MachineLeaves.{left-held, left-progress}
+use Rattle.sc_expand.proofs.MachineGoesOn.{left-held, left-progress}
 use Rattle.sc_expand.proofs.MachineLemmas.{stands-cases, turn-progress}
-use Rattle.sc_expand.proofs.Rests.{next-argument, next-call, put-less, put-same, some-same}
 use Rattle.sc_expand.proofs.SeenLemmas.{Grows-refl, seen_at-Grows}
 use Rattle.sc_expand.proofs.Terms.{AreHeld, Call, CallNextAlike, Cond, DefineNextAlike, Enclosing, Expansion, Frame, Grows, HasLast, HasMore, Hidden, IsAlikeCall, IsAlikeEnclosing, IsAlikeExpansion, IsAlikeFrame, IsConfig, IsExpansion, IsFirstIn, IsHeldCall, IsHeldEnclosing, IsHeldExpansion, IsHeldFrame, IsResumed, Macros, Others, Progress, Sets, Stands, Stores, TakesName, Vec, View, at, at_call, calls_at, others_at, provenance_of, rests, seen_at, state_in, view_at, waiting_at, with_call}
-use Rattle.sc_expand.proofs.RestrictedLists.{never-empty}
+use Rattle.sc_expand.proofs.KeptLemmas.{never-empty}
 use Rattle.sc_expand.proofs.WaitingLemmas.{same-left}
 use Rattle.sc_expand.specs.Running as running
 use Rattle.sc_expand.specs.Running.{GoesOn, IsAsLong, IsReady, IsTurned, KeepsLeft, KeepsNext, Pushes, PutsOut, Rest, TakesFirst, bottom, bottom_by, last_of, next_by, next_of, put_by, put_out}
@@ -60,9 +59,6 @@ next-none : (e : Expansion) → e.top.calls.items ≡ [] → e.top.work ≡ [] �
 next-none e none empty less =
     ap (λ (ks : List Call). next_by (last_of ks) (slice_get e.top.work 0) (last_of e.below.items)) none
     ∙ (ap (λ (ts : List (Cond × Hidden)). next_by None (slice_get ts 0) (last_of e.below.items)) empty ∙ ap (λ (es : List Enclosing). next_by None None (last_of es)) less)
-
-not-some-none : {A : Type 0} {x : A} → None ≡ Some x → ⊥
-not-some-none is = cc
 
 module _ (st : Stores) (c : List ℕ) where
   few-calls : {below : List Enclosing} {v : View} → Stands st c below v → length v.calls ≤ 1
@@ -342,7 +338,7 @@ module _ (st : Stores) (files : List (List ℕ)) (macros : List ℕ → Macros) 
     keeps = running.nothing_kept (λ whole uncalled. empty) refl;
     left = same-left (Grows-refl st) e (with_below e calls below) is.held refl (alone-bottom calls below less) (alone-out calls below less);
     long = long-same st e (with_below e calls below) (alone-bottom calls below less);
-    which = λ cond is c. absurd (not-some-none (sym (next-none e none.before empty less.before) ∙ is));
+    which = λ cond is c. absurd (none-some (sym (next-none e none.before empty less.before) ∙ is));
     some = λ went. absurd (true≢false (sym went));
     ended = λ went. record { below = less.after; work = empty; calls = none.after };
     alike = λ c d others p q defines same inside alike. alone-alike e alike calls below none less;

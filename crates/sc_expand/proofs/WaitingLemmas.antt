@@ -1,12 +1,55 @@
 -- What configurations that wait keep of the whole list.
 use Rattle.std.proofs.Common.{◌≡◌, ℕ, ◌&&◌, Bool, true, false, List, [], ◌∷◌, ◌++◌, All, append-nil, drop, slice_get, Some, refl, sym, ap, subst, ◌∙◌, if◌then◌else◌}
+use Rattle.sc_expand.proofs.AlikeLemmas.{All-at}
 use Rattle.sc_expand.proofs.BottomLemmas.{bottom-frame}
-use Rattle.sc_expand.proofs.Facts.{All-head, IsConfig-Keeps, IsConfig-kept, and-false, and-true, append_assoc}
-use Rattle.sc_expand.proofs.PuttingOut.{pushed-held, pushed-seen, pushed-some, some-Keeps}
-use Rattle.sc_expand.proofs.SeenLemmas.{seen_at-Grows, seen_at-append}
+use Rattle.sc_expand.proofs.Facts.{All-head, IsConfig-Keeps, IsConfig-kept, and-false, and-true, append_assoc, All-append, All-cons, All-nil, All-tail, map-one}
+use Rattle.sc_expand.proofs.SeenLemmas.{seen_at-Grows, seen_at-append, AreHeld-append}
+use Rattle.sc_expand.proofs.TakingLemmas.{AreHeld-single}
 use Rattle.sc_expand.proofs.TakingSteps.{seen-first}
-use Rattle.sc_expand.proofs.Terms.{AreHeld, Cond, Enclosing, Expansion, Grows, Hidden, IsApart, IsCond, IsConfig, IsHeldExpansion, IsHeldToken, IsNever, Keeps, KeepsFirst, KeepsLeft, Sets, Stores, bottom, bottom_by, is_whole, put_out, seen_at, seen_hidden}
+use Rattle.sc_expand.proofs.Terms.{AreHeld, Cond, Enclosing, Expansion, Grows, Hidden, IsApart, IsCond, IsConfig, IsHeldExpansion, IsHeldToken, IsNever, Keeps, KeepsFirst, KeepsLeft, Sets, Stores, bottom, bottom_by, is_whole, put_out, seen_at, seen_hidden, AreAlike, IsAlike, IsPushed, absent, pushed}
 use Rattle.sc_expand.specs.Waiting as waiting
+
+abbrev Item : Type 0
+Item = Cond × Hidden
+
+pub some-Keeps : {T : Type 0} {old new : Sets} → Keeps old new → (list : List (Cond × T)) → All (λ (item : Cond × T). IsCond old item.0.0) list
+    → All (λ (item : Cond × T). IsNever old item.0.0 → ⊥) list → All (λ (item : Cond × T). IsNever new item.0.0 → ⊥) list
+some-Keeps {T} {new = new} keeps [] own some = All-nil (λ (item : Cond × T). IsNever new item.0.0 → ⊥)
+some-Keeps {T} {old} {new} keeps (x ∷ xs) own some =
+    let Own : Cond × T → Type 0 = λ item. IsCond old item.0.0 in
+    let Some : Cond × T → Type 0 = λ item. IsNever old item.0.0 → ⊥ in
+    All-cons (λ (item : Cond × T). IsNever new item.0.0 → ⊥) x xs
+    (λ never. All-head Some x xs some (record { none = λ c listed. sym (keeps.at x.0.0 c (All-head Own x xs own) listed) ∙ never.none c (IsConfig-Keeps keeps listed) }))
+    (some-Keeps keeps xs (All-tail Own x xs own) (All-tail Some x xs some))
+
+-- ---- one token more
+
+pub pushed-seen : (st : Stores) {cond : Cond} {token : Hidden} {before after : List (Cond × Hidden)} → IsPushed st.sets cond token before after → (c : List ℕ) → IsConfig st.sets.arities c
+    → seen_at st after c ≡ seen_at st before c ++ (if st.sets.has cond.0 c then seen_hidden st.names st.hides token ∷ [] else [])
+pushed-seen st {cond} {token} {before} (pushed some is) c listed =
+    ap (λ l. seen_at st l c) is
+    ∙ (seen_at-append st before ((cond, token) ∷ []) c ∙ ap (λ ts. seen_at st before c ++ ts) (map-one (seen_hidden st.names st.hides) (st.sets.has cond.0 c) token))
+pushed-seen st {cond} {token} {before} (absent never is) c listed =
+    ap (λ l. seen_at st l c) is
+    ∙ (sym (append-nil (seen_at st before c)) ∙ ap (λ b. seen_at st before c ++ (if b then seen_hidden st.names st.hides token ∷ [] else [])) (sym (never.none c listed)))
+
+pub pushed-held : (st : Stores) (files : ℕ) {cond : Cond} {token : Hidden} {before after : List (Cond × Hidden)} → IsPushed st.sets cond token before after
+    → IsCond st.sets cond.0 → IsHeldToken st files token → AreHeld st files before → AreHeld st files after
+pushed-held st files {cond} {token} {before} (pushed some is) own held was = subst (AreHeld st files) (sym is) (AreHeld-append before ((cond, token) ∷ []) was (AreHeld-single st files cond token own held))
+pushed-held st files (absent never is) own held was = subst (AreHeld st files) (sym is) was
+
+pub pushed-some : {s : Sets} {cond : Cond} {token : Hidden} {before after : List (Cond × Hidden)} → IsPushed s cond token before after
+    → All (λ (item : Item). IsNever s item.0.0 → ⊥) before → All (λ (item : Item). IsNever s item.0.0 → ⊥) after
+pushed-some {s} {cond} {token} {before} (pushed some is) all =
+    let Some : Item → Type 0 = λ item. IsNever s item.0.0 → ⊥ in
+    subst (All Some) (sym is) (All-append Some before ((cond, token) ∷ []) all (All-cons Some (cond, token) [] some (All-nil Some)))
+pushed-some {s} (absent never is) all = subst (All (λ (item : Item). IsNever s item.0.0 → ⊥)) (sym is) all
+
+pub pushed-alike : (s : Sets) (c d : List ℕ) {cond : Cond} {token : Hidden} {before after : List (Cond × Hidden)} → IsPushed s cond token before after → IsAlike s c d cond → AreAlike s c d before → AreAlike s c d after
+pushed-alike s c d {cond} {token} {before} (pushed some is) same all =
+    let Same : Item → Type 0 = λ item. IsAlike s c d item.0 in
+    subst (AreAlike s c d) (sym is) (All-append Same before ((cond, token) ∷ []) all (All-cons Same (cond, token) [] same (All-nil Same)))
+pushed-alike s c d (absent never is) same all = subst (AreAlike s c d) (sym is) all
 
 pub below-none : (below : List Enclosing) → is_whole below ≡ true → below ≡ []
 below-none [] is = refl
@@ -26,10 +69,6 @@ split : (b : Bool) {A : Type 0} (front behind : List A) (h : A) → (front ++ (i
 split true front behind h = append_assoc front (h ∷ []) behind
 split false front behind h = ap (λ l. l ++ behind) (append-nil front)
 
-first-has : (P : Cond × Hidden → Type 0) (list : List (Cond × Hidden)) (item : Cond × Hidden) → slice_get list 0 ≡ Some item → All P list → P item
-first-has P [] item is all = absurd (cc)
-first-has P (x ∷ xs) item is all = let same : x ≡ item = cc in subst P same (All-head P x xs all)
-
 module _ {old : Sets} (st : Stores) (keeps : Keeps old st.sets) {waits : ℕ} {below : List Enclosing} {work before after : List (Cond × Hidden)} (own : All (λ (item : Cond × Hidden). IsCond old item.0.0) work) where
   -- those that wait have left the same
   pub kept-left : KeepsFirst old st.sets waits below work before after → below ≡ [] → (c : List ℕ) → IsConfig old.arities c → old.has waits c ≡ true
@@ -37,7 +76,7 @@ module _ {old : Sets} (st : Stores) (keeps : Keeps old st.sets) {waits : ℕ} {b
   kept-left (waiting.kept item cond whole first meets put) is c listed has =
       let h = seen_hidden st.names st.hides item.1 in
       let cond_is : st.sets.has cond.0 c ≡ st.sets.has item.0.0 c =
-      meets.at c (IsConfig-Keeps keeps listed) ∙ (ap (λ b. old.has item.0.0 c && b) has ∙ (and-true (old.has item.0.0 c) ∙ sym (keeps.at item.0.0 c (first-has (λ (item : Cond × Hidden). IsCond old item.0.0) work item first own) listed))) in
+      meets.at c (IsConfig-Keeps keeps listed) ∙ (ap (λ b. old.has item.0.0 c && b) has ∙ (and-true (old.has item.0.0 c) ∙ sym (keeps.at item.0.0 c (All-at (λ (item : Cond × Hidden). IsCond old item.0.0) work 0 item first own) listed))) in
       ap (λ l. l ++ seen_at st (drop 1 work) c) (pushed-seen st put c (IsConfig-Keeps keeps listed) ∙ ap (λ b. seen_at st before c ++ (if b then h ∷ [] else [])) cond_is)
       ∙ (split (st.sets.has item.0.0 c) (seen_at st before c) (seen_at st (drop 1 work) c) h
       ∙ ap (λ l. seen_at st before c ++ l) (sym (ap (λ l. seen_at st l c) (first-is work item first) ∙ seen-first st item (drop 1 work) c)))
@@ -60,7 +99,7 @@ module _ {old : Sets} (st : Stores) (keeps : Keeps old st.sets) {waits : ℕ} {b
   kept-some (waiting.none empty same) some = subst (All (λ (item : Cond × Hidden). IsNever st.sets item.0.0 → ⊥)) (sym same) some
 
   pub kept-held : (files : ℕ) → All (λ (item : Cond × Hidden). IsHeldToken st files item.1) work → KeepsFirst old st.sets waits below work before after → AreHeld st files before → AreHeld st files after
-  kept-held files held (waiting.kept item cond whole first meets put) was = pushed-held st files put meets.own (first-has (λ (x : Cond × Hidden). IsHeldToken st files x.1) work item first held) was
+  kept-held files held (waiting.kept item cond whole first meets put) was = pushed-held st files put meets.own (All-at (λ (x : Cond × Hidden). IsHeldToken st files x.1) work 0 item first held) was
   kept-held files held (waiting.none empty same) was = subst (AreHeld st files) (sym same) was
 
 -- the store grew before
@@ -71,7 +110,7 @@ kept-later {old} {new} keeps {waits} {work = work} own waits_own (waiting.kept i
       own = meets.own;
       at = λ c listed.
           let was = IsConfig-kept keeps listed in
-          meets.at c listed ∙ (λ i. sym (keeps.at item.0.0 c (first-has (λ (x : Cond × Hidden). IsCond old x.0.0) work item first own) was) i && sym (keeps.at waits c waits_own was) i);
+          meets.at c listed ∙ (λ i. sym (keeps.at item.0.0 c (All-at (λ (x : Cond × Hidden). IsCond old x.0.0) work 0 item first own) was) i && sym (keeps.at waits c waits_own was) i);
     }) put
 kept-later keeps own waits_own (waiting.none empty same) = waiting.none empty same
 

@@ -1,13 +1,12 @@
 -- What configurations that wait have left as the first token of a list is taken.
-use Rattle.std.proofs.Common.{◌≡◌, ◌<◌, ◌&&◌, ℕ, Bool, true, false, List, [], ◌∷◌, ◌++◌, All, None, Some, append-nil, drop, length, map, slice_get, refl, sym, ap, subst, ◌∙◌, if◌then◌else◌}
+use Rattle.std.proofs.Common.{◌≡◌, ◌<◌, ◌&&◌, ℕ, Bool, true, false, List, [], ◌∷◌, ◌++◌, All, Some, append-nil, drop, length, map, slice_get, refl, sym, ap, subst, ◌∙◌, if◌then◌else◌}
 use Rattle.sc_expand.proofs.AlikeLemmas.{others-none}
 use Rattle.sc_expand.proofs.Facts.{IsConfig-Keeps, and-false, slice_get_within}
-use Rattle.sc_expand.proofs.PuttingOut.{some-Keeps}
-use Rattle.sc_expand.proofs.Rests.{first-is, some-same}
+use Rattle.sc_expand.proofs.WaitingLemmas.{some-Keeps, kept-inside, kept-left, kept-others, kept-some, same-left}
+use Rattle.sc_expand.proofs.Rests.{first-is, some-same, none-some}
 use Rattle.sc_expand.proofs.SeenLemmas.{Grows-trans, seen_at-Grows, seen_at-append}
 use Rattle.sc_expand.proofs.TakingTurns.{first-token, put-seen}
 use Rattle.sc_expand.proofs.Terms.{Cond, Denotes, Enclosing, Expansion, Grows, HasPutOut, Hidden, IsApart, IsConfig, IsFirstIn, IsHeldExpansion, IsHeldTaken, IsNever, IsPushed, KeepsFirst, KeepsLeft, KeepsLists, KeepsNext, Stores, Taken, View, at, bottom, bottom_by, has_first, no_others, seen_at, seen_hidden}
-use Rattle.sc_expand.proofs.WaitingLemmas.{kept-inside, kept-left, kept-others, kept-some, same-left}
 use Rattle.sc_expand.specs.Running as running
 use Rattle.sc_expand.specs.Waiting as waiting
 
@@ -61,9 +60,6 @@ put-out-left {old} {st} {new} {files} grows later was now next taken token held 
         let bottom_same : bottom next ≡ bottom was = ap (λ l. bottom_by l.items next.top) below_same ∙ (ap (λ l. bottom_by l next.top) is ∙ sym (ap (λ l. bottom_by l was.top) is)) in
         same-left all was next held (rest ∙ lists.rest) (ap (λ f. f.work) bottom_same) (ap (λ f. f.out) bottom_same)
 
-first-none : {A : Type 0} {x : A} → None ≡ Some x → ⊥
-first-none is = cc
-
 -- the token is kept where those that wait have it
 pub put-out-keeps : {old st new : Stores} {files : ℕ} → Grows old st → Grows st new → (was now next : Expansion) (taken : Taken) (token : Hidden) (item : Cond × Hidden) → IsHeldExpansion st files now → KeepsLists was now
     → HasPutOut st.sets new.sets taken token now next → was.top.calls.items ≡ [] → slice_get was.top.work 0 ≡ Some item
@@ -93,7 +89,7 @@ put-out-keeps {old} {st} {new} grows later was now next taken token item held li
 
     by : KeepsFirst st.sets new.sets now.refusals.waiting.0 now.below.items now.top.work now.rest next.rest → KeepsNext old.sets new.sets was next true
     by (waiting.none empty same) =
-        running.nothing_kept (λ whole uncalled. absurd (first-none (ap (λ (l : List (Cond × Hidden)). slice_get (map (λ (x : Cond × Hidden). x.1) l) 0) (sym (empty (ap (λ b. b.items) lists.below ∙ whole)))
+        running.nothing_kept (λ whole uncalled. absurd (none-some (ap (λ (l : List (Cond × Hidden)). slice_get (map (λ (x : Cond × Hidden). x.1) l) 0) (sym (empty (ap (λ b. b.items) lists.below ∙ whole)))
         ∙ (ap (λ l. slice_get l 0) lists.tokens ∙ first-token was.top.work item first)))) (same ∙ lists.rest)
     by (waiting.kept x cond whole at meets push) =
         running.first_kept item cond (sym (ap (λ b. b.items) lists.below) ∙ whole) calls first

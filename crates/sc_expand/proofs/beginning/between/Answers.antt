@@ -1,6 +1,6 @@
 use Rattle.std.proofs.Common.{◌≡◌, ◌∙◌, ◌+◌, ◌<◌, ◌≤◌, All, ap, arith, get_or, length, subst, sym}
-use Rattle.sc_expand.proofs.BeginningLemmas.{consecutive_shared, consecutive_within, map_ok, tokens_under}
-use Rattle.sc_expand.proofs.Facts.{length-map}
+use Rattle.sc_expand.proofs.BeginningLemmas.{consecutive_shared, consecutive_within, tokens_under}
+use Rattle.sc_expand.proofs.Facts.{length-map, if_ok}
 use Rattle.sc_expand.proofs.GatherPlaces.{held-tokens}
 use Rattle.sc_expand.proofs.Terms.{Cond, Hidden}
 use Rattle.sc_expand.proofs.beginning.between.Goals as goal
@@ -24,7 +24,7 @@ returns-in-Some c =
     let first = get_or places 0 0 in
     let run = c.are_consecutive.ensures c.if-are_consecutive.true in
     let within : first + length places ≤ length list = consecutive_within (length list) first places (omega arith) run c.requires.places in
-    map_ok c.share.result (λ made is other. is ∙ consecutive_shared c.args.cond c.in-Some.tokens.now list other first places c.in-Some.ensures run within) c.share.ensures
+    if_ok _ _ c.share.result (λ made is other. is ∙ consecutive_shared c.args.cond c.in-Some.tokens.now list other first places c.in-Some.ensures run within) c.share.ensures
 
 pub of-requires : goal.of-requires
 of-requires c = λ k d h.

@@ -1,6 +1,6 @@
 use Rattle.std.proofs.Common.{◌≡◌, ◌∙◌, List, [], Ok, Err, map, sym}
-use Rattle.sc_expand.proofs.BeginningLemmas.{Fails, map_none, map_ok, map_some, no_hash, refused_none, refused_some}
-use Rattle.sc_expand.proofs.Facts.{Extends-refl}
+use Rattle.sc_expand.proofs.BeginningLemmas.{Fails, map_none, map_some, no_hash, refused_none, refused_some}
+use Rattle.sc_expand.proofs.Facts.{Extends-refl, if_ok}
 use Rattle.sc_expand.proofs.Placing.{held-template}
 use Rattle.sc_expand.proofs.Terms.{BadStringize, HiddenToken, OnFault, Place, failure_at, no_names, provenance_of, seen_arguments, seen_form, seen_item, stores}
 use Rattle.sc_expand.proofs.beginning.template_of.Goals as goal
@@ -29,10 +29,10 @@ pub returns-in-Err-clause-some : goal.returns-in-Err-clause-some
 returns-in-Err-clause-some c =
     let raw = c.args.raw.now in
     let err : OnFault c.in-Err.stop (Fails c.template.new.names c.template.new.sets c.args.form.now c.args.items.now raw c.args.place) = c.in-Err.ensures.err in
-    map_ok c.refused.result (λ made. map_some made (λ template told. refused_some _ _ c.args.form.now c.args.items.now raw c.args.place c.in-Err.stop template err told)) c.refused.ensures.some
+    if_ok _ _ c.refused.result (λ made. map_some made (λ template told. refused_some _ _ c.args.form.now c.args.items.now raw c.args.place c.in-Err.stop template err told)) c.refused.ensures.some
 
 pub returns-in-Err-clause-none : goal.returns-in-Err-clause-none
 returns-in-Err-clause-none c =
     let raw = c.args.raw.now in
     let err : OnFault c.in-Err.stop (Fails c.template.new.names c.template.new.sets c.args.form.now c.args.items.now raw c.args.place) = c.in-Err.ensures.err in
-    map_ok c.refused.result (λ made. map_none made (λ is. refused_none _ _ c.args.form.now c.args.items.now raw c.args.place c.in-Err.stop err is)) c.refused.ensures.none
+    if_ok _ _ c.refused.result (λ made. map_none made (λ is. refused_none _ _ c.args.form.now c.args.items.now raw c.args.place c.in-Err.stop err is)) c.refused.ensures.none

@@ -1,8 +1,8 @@
 use Rattle.std.proofs.Common.{◌<◌, ◌&&◌, ◌∙◌, [], not, ap, map, sym, take, if◌then◌else◌}
-use Rattle.sc_expand.proofs.AlikeFilling.{items_at-alike}
+use Rattle.sc_expand.proofs.AlikeLemmas.{items_at-alike}
 use Rattle.sc_expand.proofs.Ending.{bared, items-bared}
 use Rattle.sc_expand.proofs.Facts.{All-map, Denotes-Keeps, Denotes-self, IsConfig-Keeps, Keeps-trans, items_at-Keeps}
-use Rattle.sc_expand.proofs.RestrictedLists.{restricted-alike, restricted-all, restricted-items, restricted-own, restricted-some}
+use Rattle.sc_expand.proofs.KeptLemmas.{restricted-alike, restricted-all, restricted-items, restricted-own, restricted-some}
 use Rattle.sc_expand.proofs.Terms.{AreAlike, Cond, Hidden, IsAlike, IsHeld, Keeps, Token, is_several, items_at, unclosed_at}
 use Rattle.sc_expand.proofs.closing.close.Goals as goal
 

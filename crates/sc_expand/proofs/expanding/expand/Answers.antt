@@ -1,12 +1,12 @@
-use Rattle.std.proofs.Common.{ℕ, List, length, subst, sym, ◌∙◌}
+use Rattle.std.proofs.Common.{length, subst, sym, ◌∙◌}
 use Rattle.sc_expand.proofs.AlikeLemmas.{IsAlike-Keeps, all-back}
 use Rattle.sc_expand.proofs.Ending.{bared}
 use Rattle.sc_expand.proofs.ExpandLemmas.{answer-alike, answer-held, answer-some, done-empty, done-expanded, hidden-held, source-defines}
-use Rattle.sc_expand.proofs.Facts.{IsConfig-Keeps, IsConfig-kept, IsTable-Extends, IsTable-Keeps, Keeps-trans, err_from_is_err_and, macros_at-Extends, macros_at-Keeps}
+use Rattle.sc_expand.proofs.Facts.{IsConfig-Keeps, IsTable-Extends, IsTable-Keeps, Keeps-trans, err_from_is_err_and, macros_at-Extends, macros_at-Keeps}
 use Rattle.sc_expand.proofs.FootprintPlaces.{text-stops}
 use Rattle.sc_expand.proofs.PlainTables.{entry_names, within-table}
 use Rattle.sc_expand.proofs.SpanFootprints.{apart-stops}
-use Rattle.sc_expand.proofs.Terms.{AreAlike, Cond, IsAlike, IsConfig, Token, macros_at, provenance_of, seen_hidden}
+use Rattle.sc_expand.proofs.Terms.{AreAlike, Cond, IsAlike, Token, macros_at, provenance_of, seen_hidden}
 use Rattle.sc_expand.proofs.expanding.expand.Goals as goal
 
 pub settle-requires-clause-held : goal.settle-requires-clause-held

@@ -1,6 +1,5 @@
 use Rattle.std.proofs.Common.{◌≡◌, ◌∙◌, ◌++◌, ℕ, [], true, false, Bool, List, All, map, sym, ap, subst}
-use Rattle.sc_expand.proofs.AlikeFilling.{AreAlike-conditions, AreAlike-nil}
-use Rattle.sc_expand.proofs.AlikeLemmas.{IsAlike-Keeps}
+use Rattle.sc_expand.proofs.AlikeLemmas.{AreAlike-conditions, AreAlike-nil, IsAlike-Keeps}
 use Rattle.sc_expand.proofs.Facts.{All-nil, Extends-refl, IsConfig-Keeps, Keeps-trans, hide_later, spaced_first}
 use Rattle.sc_expand.proofs.FillingLemmas.{items_later, items_seen, made_held, parts_seen}
 use Rattle.sc_expand.proofs.Terms.{Adds, AllHeld, AreAlike, AreHeld, Cond, Hidden, IsAlike, IsConfig, IsHeldPartIn, IsHeldToken, Part, Sets, Stores, filled_in, first_spaced_if, hidden_by, hide_at, hiding, items_at, parts_at, provenance_of, seen_hidden, seen_part, stores, with_space}

@@ -1,5 +1,5 @@
 use Rattle.sc_expand.proofs.PlainCompletes.{size}
-use Rattle.sc_expand.proofs.PlainReaches.{size-move}
+use Rattle.sc_expand.proofs.PlainTurns.{size-move}
 use Rattle.sc_expand.proofs.laws.steps_end.Goals as goal
 
 pub returns : goal.returns

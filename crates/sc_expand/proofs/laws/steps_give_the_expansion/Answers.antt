@@ -1,5 +1,5 @@
 use Rattle.std.proofs.Common.{[]}
-use Rattle.sc_expand.proofs.PlainReaches.{reaches-end, reaches-fail, reaches-leads, reaches-start}
+use Rattle.sc_expand.proofs.PlainTurns.{reaches-end, reaches-fail, reaches-leads, reaches-start}
 use Rattle.sc_expand.proofs.Terms.{scanning}
 use Rattle.sc_expand.proofs.laws.steps_give_the_expansion.Goals as goal
 

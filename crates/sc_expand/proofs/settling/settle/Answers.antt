@@ -1,8 +1,6 @@
-use Rattle.std.proofs.Common.{ap, length, subst, sym, ◌∙◌, ℕ, List, map}
-use Rattle.sc_expand.proofs.Ending.{bared}
-use Rattle.sc_expand.proofs.SettlingLemmas.{begun-alike, begun-held, settled-alike, settled-held, settled-is}
-use Rattle.sc_expand.proofs.TakingParts.{none-found}
-use Rattle.sc_expand.proofs.Terms.{AreHeld, Cond, DefineAlike, Expansion, Extends, IsCond, IsConfig, IsHeldSettled, IsSettled, IsUntouched, Refusals, items_at, macros_at, provenance_of, seen_at, seen_hidden, stores}
+use Rattle.std.proofs.Common.{ap, length, subst, sym, ◌∙◌}
+use Rattle.sc_expand.proofs.ExpandLemmas.{begun-alike, begun-held, settled-alike, settled-held, settled-is}
+use Rattle.sc_expand.proofs.Terms.{AreHeld, Cond, DefineAlike, Expansion, Extends, IsCond, IsHeldSettled, IsSettled, IsUntouched, macros_at, provenance_of, seen_at, stores}
 use Rattle.sc_expand.proofs.settling.settle.Goals as goal
 
 pub run-ran-requires-clause-held : goal.run-ran-requires-clause-held

@@ -1,6 +1,6 @@
 use Rattle.std.proofs.Common.{◌∙◌, ◌+◌, ap, drop, get_or}
 use Rattle.sc_expand.proofs.Facts.{blank, drop_more, slice_get-get_or}
-use Rattle.sc_expand.proofs.PartingGroups.{group_parted}
+use Rattle.sc_expand.proofs.Parting.{group_parted}
 use Rattle.sc_expand.proofs.Terms.{parted_with, seen_list}
 use Rattle.sc_expand.proofs.arguments.Parting.go_on.Goals as goal
 

@@ -2,7 +2,7 @@ use Rattle.std.proofs.Common.{All, map, refl, sym, ap, subst, ◌∙◌}
 use Rattle.sc_expand.proofs.AlikeGathering.{begun-alike}
 use Rattle.sc_expand.proofs.BeginningLemmas.{in_none, in_some, is_gathered, is_template}
 use Rattle.sc_expand.proofs.Facts.{All-push, Keeps-refl}
-use Rattle.sc_expand.proofs.GatherSteps.{pushed-at, pushed-held, pushed-other, refused-alike, refused-ends, refused-held, refused-live, refused-other}
+use Rattle.sc_expand.proofs.LeavingLemmas.{pushed-at, pushed-held, pushed-other, refused-alike, refused-ends, refused-held, refused-live, refused-other}
 use Rattle.sc_expand.proofs.SeenLemmas.{IsHeldExpansion-Grows}
 use Rattle.sc_expand.proofs.TakingSteps.{on-ok}
 use Rattle.sc_expand.proofs.Terms.{BadStringize, Call, Form, Grows, IsAlikeCall, failure_at, list_slots, seen_arguments, seen_hidden, seen_item, seen_template, stores}

@@ -1,5 +1,5 @@
 use Rattle.std.proofs.Common.{vec_len, ap, refl, sym, ◌∙◌}
-use Rattle.sc_expand.proofs.Dropping.{dropped-argument, dropped-call, dropped-token, none-popped}
+use Rattle.sc_expand.proofs.Rests.{dropped-argument, dropped-call, dropped-token, none-popped}
 use Rattle.sc_expand.proofs.TakingSteps.{on-ok}
 use Rattle.sc_expand.proofs.expansion.Expansion.drop_next.Goals as goal
 

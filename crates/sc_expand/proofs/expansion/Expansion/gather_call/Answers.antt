@@ -2,7 +2,7 @@ use Rattle.std.proofs.Common.{◌≡◌, ℕ, List, All, Some, None, length, ref
 use Rattle.sc_expand.proofs.BeginningLemmas.{in_some}
 use Rattle.sc_expand.proofs.Facts.{All-head, All-tail, Extends-refl, Keeps-trans}
 use Rattle.sc_expand.proofs.GatherTaking.{arguments-held, begun-gathered, function-form, head-held, left-grows, left-held, misfit-gathered, seen_fit}
-use Rattle.sc_expand.proofs.GatherSteps.{refused-alike, refused-ends, refused-held, refused-live, refused-other}
+use Rattle.sc_expand.proofs.LeavingLemmas.{refused-alike, refused-ends, refused-held, refused-live, refused-other}
 use Rattle.sc_expand.proofs.SeenLemmas.{token-Grows}
 use Rattle.sc_expand.proofs.TakingSteps.{on-ok}
 use Rattle.sc_expand.proofs.Terms.{Grows, HasBegun, Hidden, IsHeldExpansion, IsHeldHidden, IsHeldToken, Name, Rest, arguments_for, function_like, option_map, parted, seen_arguments, seen_form, seen_list, stores}
@@ -15,38 +15,27 @@ arguments-requires g c =
     let rest = All-tail H c.in_ok-call.call.close c.in_ok-call.call.between (c.in_ok-call.ensures.left.own files c.requires.held.1.top.work) in
     λ k d h. (rest k d h).held.token.spelling
 
-pub begin-requires-clause-held : goal.begin-requires-clause-held
-begin-requires-clause-held g c = (c.requires.held.0, left-held c.in_ok-call.ensures.left c.requires.held.0 c.requires.held.1)
-
-pub begin-requires-clause-head : goal.begin-requires-clause-head
-begin-requires-clause-head g c =
+pub begin-requires : goal.begin-requires
+begin-requires g c =
     let files = c.requires.held.0 in
     let held = c.requires.held.1 in
-    let H : Hidden → Type 0 = IsHeldToken (stores (g.C.Conditions.sets c.args.conds.now) c.args.names.now c.args.self.now.sets) files in
-    let head = head-held H c.args.self.now.top.work c.args.head held.top.work.held c.requires.head in
-    let P : List (List Name) → Type 0 = λ h. IsHeldHidden c.args.names.now h c.args.head in
-    subst P (sym c.take_call.ensures.sets) head.held
-
-pub begin-requires-clause-close : goal.begin-requires-clause-close
-begin-requires-clause-close g c =
-    let files = c.requires.held.0 in
-    let H : Hidden → Type 0 = IsHeldToken (stores (g.C.Conditions.sets c.args.conds.now) c.args.names.now c.args.self.now.sets) files in
-    let first = All-head H c.in_ok-call.call.close c.in_ok-call.call.between (c.in_ok-call.ensures.left.own files c.requires.held.1.top.work) in
-    let P : List (List Name) → Type 0 = λ h. IsHeldHidden c.args.names.now h c.in_ok-call.call.close in
-    subst P (sym c.take_call.ensures.sets) first.held
-
-pub begin-requires-clause-raw : goal.begin-requires-clause-raw
-begin-requires-clause-raw g c =
     let n = c.args.names.now in
-    let h1 = c.take_call.new.self.sets in
-    let files = c.requires.held.0 in
+    let call = c.in_ok-call.call in
     let H : Hidden → Type 0 = IsHeldToken (stores (g.C.Conditions.sets c.args.conds.now) n c.args.self.now.sets) files in
-    let rest = All-tail H c.in_ok-call.call.close c.in_ok-call.call.between (c.in_ok-call.ensures.left.own files c.requires.held.1.top.work) in
-    let P : List (List Name) → Type 0 = λ h. All (IsHeldHidden n h) c.in_ok-call.call.between in
-    let between = subst P (sym c.take_call.ensures.sets) (λ k d h. (rest k d h).held) in
-    let V : List (List Hidden) → Type 0 = All (All (IsHeldHidden n h1)) in
-    let raw = in_some _ c.in_ok-fit.fit c.in-Some.raw c.in-Some.is (c.in_ok-fit.ensures.own h1 between) in
-    subst V (sym c.deref.ensures.value) raw
+    let own = c.in_ok-call.ensures.left.own files held.top.work in
+    let rest = All-tail H call.close call.between own in
+    let All-held : List (List Name) → List Hidden → Type 0 = λ h. All (IsHeldHidden n h) in
+    let same = sym c.take_call.ensures.sets in
+    let raw = c.in_ok-fit.ensures.own c.take_call.new.self.sets (subst (λ h. All-held h call.between) same (λ k d h. (rest k d h).held)) in
+    record {
+      held = (files, left-held c.in_ok-call.ensures.left files held);
+      cond_own = c.take_call.ensures.keeps.own _ c.requires.branch.own;
+      form = c.requires.form;
+      items = c.requires.items;
+      head = subst (λ h. IsHeldHidden n h c.args.head) same (head-held H c.args.self.now.top.work c.args.head held.top.work.held c.requires.head).held;
+      close = subst (λ h. IsHeldHidden n h call.close) same (All-head H call.close call.between own).held;
+      raw = subst (All (All-held c.take_call.new.self.sets)) (sym c.deref.ensures.value) (in_some _ c.in_ok-fit.fit c.in-Some.raw c.in-Some.is raw);
+    }
 
 pub returns-in-Some-clause-gathered : goal.returns-in-Some-clause-gathered
 returns-in-Some-clause-gathered g c = on-ok c.begin.result
@@ -103,9 +92,6 @@ returns-clause-gathered g c = on-ok c.refuse.result
     (λ k held. refused-held grows e1 (left-held left k held) refuses (head-held (IsHeldToken (stores s0 n e0.sets) k) e0.top.work c.args.head held.top.work.held c.requires.head).file)
     (refused-other grows e1 mid refuses) (refused-alike grows e1 mid refuses) refl (refused-live grows e1 mid refuses) (refused-ends grows e1 mid refuses))
     c.refuse.ensures.refuses
-
-pub begin-requires-clause-cond_own : goal.begin-requires-clause-cond_own
-begin-requires-clause-cond_own g c = c.take_call.ensures.keeps.own _ c.requires.branch.own
 
 pub returns-in-Some-clause-keeps : goal.returns-in-Some-clause-keeps
 returns-in-Some-clause-keeps g c = Keeps-trans c.take_call.ensures.keeps c.begin.ensures.keeps

@@ -1,6 +1,5 @@
-use Rattle.std.proofs.Common.{◌≡◌, ◌&&◌, append-nil, ◌++◌, All, Some, None, option_to_list, length, reverse, map, refl, sym, ap, subst, ◌∙◌, arith, if◌then◌else◌}
-use Rattle.sc_expand.proofs.AlikeFilling.{alike-enter, alike-narrowed}
-use Rattle.sc_expand.proofs.AlikeLemmas.{IsAlikeExpansion-Keeps}
+use Rattle.std.proofs.Common.{rules, ◌≡◌, ◌&&◌, append-nil, ◌++◌, All, Some, None, option_to_list, length, reverse, map, refl, sym, ap, subst, ◌∙◌, arith, if◌then◌else◌}
+use Rattle.sc_expand.proofs.AlikeLemmas.{alike-enter, alike-narrowed, IsAlikeExpansion-Keeps}
 use Rattle.sc_expand.proofs.BottomLemmas.{bottom-held, bottom-less, more-Keeps, more-none}
 use Rattle.sc_expand.proofs.Facts.{All-pop, Denotes-self, Extends-refl, IsConfig-Keeps, IsConfig-kept, Keeps-trans, and-true, and_parts}
 use Rattle.sc_expand.proofs.MachineGoesOn.{entered-held, entered-progress, later-held, replaced-progress}
@@ -49,37 +48,32 @@ returns-in-Some-clause-gone_on g c = on-ok c.enter.result
     }))
     c.enter.ensures.entered
 
-pub replace-requires-clause-held : goal.replace-requires-clause-held
-replace-requires-clause-held g c =
-    let old = stores (g.C.Conditions.sets c.args.conds.now) c.args.names.now c.args.self.now.sets in
-    let mid = stores (g.C.Conditions.sets c.apply_and.new.self) c.args.names.now c.args.self.now.sets in
-    let grows : Grows old mid = record { sets = c.apply_and.ensures.keeps; names = Extends-refl c.args.names.now; hides = Extends-refl c.args.self.now.sets } in
-    let popped : c.args.call.wanted.items ≡ c.pop.new.self.items ++ option_to_list None = c.in-None.ensures.items in (
-      c.requires.held.0,
-      (
-        IsHeldExpansion-Grows grows c.args.self.now c.requires.held.1.0,
-        later-held c.args.call (record c.args.call { cond = c.in_ok-call.field-0; wanted = c.pop.new.self }) None (IsHeldCall-Grows grows c.args.call c.requires.held.1.1) c.in_ok-call.ensures.own popped refl refl refl refl,
-      ),
-    )
-
-pub replace-requires-clause-live : goal.replace-requires-clause-live
-replace-requires-clause-live g c = λ config listed has.
+pub replace-requires : goal.replace-requires
+replace-requires g c =
+    let e = c.args.self.now in
+    let call = c.args.call in
     let was = g.C.Conditions.sets c.args.conds.now in
+    let keeps = c.apply_and.ensures.keeps in
+    let grows : Grows (stores was c.args.names.now e.sets) (stores (g.C.Conditions.sets c.apply_and.new.self) c.args.names.now e.sets) = record { sets = keeps; names = Extends-refl c.args.names.now; hides = Extends-refl e.sets } in
     let held = c.requires.held.1.0 in
-    let both = c.in_ok-call.ensures.meaning (was.has c.args.call.cond.0) (was.has c.args.self.now.refusals.live.0) (Denotes-self was c.args.call.cond.0 c.requires.held.1.1.own) (Denotes-self was c.args.self.now.refusals.live.0 held.refusals.live) in
-    c.apply_and.ensures.keeps.at c.args.self.now.refusals.live.0 config held.refusals.live (IsConfig-kept c.apply_and.ensures.keeps listed) ∙ (and_parts _ _ (sym (both.at config listed) ∙ has)).1
-
-pub replace-requires-clause-calls : goal.replace-requires-clause-calls
-replace-requires-clause-calls g c = λ config listed has.
-    let was = g.C.Conditions.sets c.args.conds.now in
-    let old = stores was c.args.names.now c.args.self.now.sets in
-    let mid = stores (g.C.Conditions.sets c.apply_and.new.self) c.args.names.now c.args.self.now.sets in
-    let grows : Grows old mid = record { sets = c.apply_and.ensures.keeps; names = Extends-refl c.args.names.now; hides = Extends-refl c.args.self.now.sets } in
-    let held = c.requires.held.1.0 in
-    let before = IsConfig-kept c.apply_and.ensures.keeps listed in
-    let both = c.in_ok-call.ensures.meaning (was.has c.args.call.cond.0) (was.has c.args.self.now.refusals.live.0) (Denotes-self was c.args.call.cond.0 c.requires.held.1.1.own) (Denotes-self was c.args.self.now.refusals.live.0 held.refusals.live) in
-    let parts = and_parts _ _ (sym (both.at config listed) ∙ has) in
-    calls_at-Grows grows config before c.args.self.now.top.calls.items held.top.calls ∙ c.requires.calls config before parts.0 parts.1
+    let held_call = c.requires.held.1.1 in
+    let popped : call.wanted.items ≡ c.pop.new.self.items ++ option_to_list None = c.in-None.ensures.items in
+    let both = c.in_ok-call.ensures.meaning (was.has call.cond.0) (was.has e.refusals.live.0) (Denotes-self was call.cond.0 held_call.own) (Denotes-self was e.refusals.live.0 held.refusals.live) in
+    record {
+      held = (
+        c.requires.held.0,
+        (
+          IsHeldExpansion-Grows grows e held,
+          later-held call (record call { cond = c.in_ok-call.field-0; wanted = c.pop.new.self }) None (IsHeldCall-Grows grows call held_call) c.in_ok-call.ensures.own popped refl refl refl refl,
+        ),
+      );
+      wanted = search rules;
+      live = λ config listed has. keeps.at e.refusals.live.0 config held.refusals.live (IsConfig-kept keeps listed) ∙ (and_parts _ _ (sym (both.at config listed) ∙ has)).1;
+      calls = λ config listed has.
+          let before = IsConfig-kept keeps listed in
+          let parts = and_parts _ _ (sym (both.at config listed) ∙ has) in
+          calls_at-Grows grows config before e.top.calls.items held.top.calls ∙ c.requires.calls config before parts.0 parts.1;
+    }
 
 pub returns-in-None-clause-gone_on : goal.returns-in-None-clause-gone_on
 returns-in-None-clause-gone_on g c = on-ok c.replace.result

@@ -1,6 +1,6 @@
 use Rattle.std.proofs.Common.{ap, refl, sym, ◌∙◌}
 use Rattle.sc_expand.proofs.AlikeLemmas.{All-at}
-use Rattle.sc_expand.proofs.Dropping.{no-first, not-some}
+use Rattle.sc_expand.proofs.Rests.{no-first, not-some}
 use Rattle.sc_expand.proofs.Facts.{Denotes-self}
 use Rattle.sc_expand.proofs.Terms.{Cond, Hidden, IsCond, is_whole}
 use Rattle.sc_expand.proofs.WaitingLemmas.{below-none, below-some}

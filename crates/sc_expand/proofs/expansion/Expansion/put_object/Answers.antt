@@ -2,7 +2,7 @@ use Rattle.std.proofs.Common.{◌∙◌, ◌++◌, refl, map, ap, sym, subst, ap
 use Rattle.sc_expand.proofs.AlikeLemmas.{AreAlike-Keeps}
 use Rattle.sc_expand.proofs.AlikeTaking.{alike-append, alike-under}
 use Rattle.sc_expand.proofs.Facts.{Keeps-refl}
-use Rattle.sc_expand.proofs.GatherSteps.{refused-alike, refused-ends, refused-held, refused-live, refused-other}
+use Rattle.sc_expand.proofs.LeavingLemmas.{refused-alike, refused-ends, refused-held, refused-live, refused-other}
 use Rattle.sc_expand.proofs.SeenLemmas.{AreHeld-Grows, AreHeld-append, IsHeldExpansion-Grows, at-Grows, seen_at-Grows, seen_at-append}
 use Rattle.sc_expand.proofs.TakingLemmas.{AreHeld-under, file-placed, seen-under}
 use Rattle.sc_expand.proofs.Terms.{AreAlike, AreHeld, Grows, failure_at, seen_at, seen_hidden, stores}

@@ -2,8 +2,8 @@ use Rattle.std.proofs.Common.{◌≡◌, ◌-◌, ◌++◌, All, Ok, arith, leng
 use Rattle.sc_expand.proofs.AlikeLemmas.{All-but-put, IsAlikeExpansion-Keeps}
 use Rattle.sc_expand.proofs.BottomLemmas.{bottom-held, bottom-long, more-bottom, more-none}
 use Rattle.sc_expand.proofs.Facts.{Extends-refl}
-use Rattle.sc_expand.proofs.GatherSteps.{refused-ends-if, refused-held}
-use Rattle.sc_expand.proofs.MachineReplaces.{refused-turn, replaced-turn}
+use Rattle.sc_expand.proofs.LeavingLemmas.{refused-ends-if, refused-held}
+use Rattle.sc_expand.proofs.MachineGoesOn.{refused-turn, replaced-turn}
 use Rattle.sc_expand.proofs.SeenLemmas.{AreHeld-append, IsHeldExpansion-Grows}
 use Rattle.sc_expand.proofs.TakingSteps.{on-ok}
 use Rattle.sc_expand.proofs.Terms.{AreAlike, AreHeld, Cond, Grows, Hidden, IsAlike, IsHeldPartIn, IsHeldTemplate, bottom, others_at, seen_part, seen_template, stores}

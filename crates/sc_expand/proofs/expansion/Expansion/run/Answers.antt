@@ -1,5 +1,5 @@
 use Rattle.std.proofs.Common.{rules, length, sym, subst}
-use Rattle.sc_expand.proofs.BetweenTurns.{turns-less, turns-rested, turns-start, turns-stop, turns-taken}
+use Rattle.sc_expand.proofs.PhaseStops.{turns-less, turns-rested, turns-start, turns-stop, turns-taken}
 use Rattle.sc_expand.proofs.Facts.{Keeps-trans}
 use Rattle.sc_expand.proofs.PhaseSegments.{run-segments}
 use Rattle.sc_expand.proofs.PlainTables.{entry_names, within-table}

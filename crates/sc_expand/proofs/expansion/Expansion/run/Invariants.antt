@@ -1,4 +1,4 @@
-use Rattle.sc_expand.proofs.BetweenTurns.{IsBetweenTurns}
+use Rattle.sc_expand.proofs.PhaseStops.{IsBetweenTurns}
 use Rattle.sc_expand.proofs.PlainTables.{entry_names, within-table}
 use Rattle.sc_expand.proofs.RunLemmas.{steps_in}
 use Rattle.sc_expand.proofs.Terms.{macros_at, stores}

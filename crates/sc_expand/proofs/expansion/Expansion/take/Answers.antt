@@ -3,12 +3,11 @@ use Rattle.sc_expand.proofs.AlikeGathering.{each-same-call}
 use Rattle.sc_expand.proofs.AlikeLemmas.{AreAlike-Keeps, IsAlike-Keeps, alike-of, in-whole, whole, whole-in, IsAlikeExpansion-Keeps, IsAlikeIn-Keeps}
 use Rattle.sc_expand.proofs.AlikeTaking.{alike-first, put-alike, same-long, takes-name, whole-same}
 use Rattle.sc_expand.proofs.Facts.{All-append, All-drop, Extends-refl, IsConfig-Keeps, IsConfig-kept, Keeps-trans, err_from_is_err_and}
-use Rattle.sc_expand.proofs.WorkListLemmas.{last-earlier, last-later, has_each-Keeps}
-use Rattle.sc_expand.proofs.PuttingOut.{pushed-some, some-Keeps}
+use Rattle.sc_expand.proofs.WorkListLemmas.{last-earlier, last-later, has_each-Keeps, long-put, taken-put}
+use Rattle.sc_expand.proofs.WaitingLemmas.{pushed-some, some-Keeps}
 use Rattle.sc_expand.proofs.Rests.{some-same}
 use Rattle.sc_expand.proofs.SeenLemmas.{AreHeld-Grows, IsHeldExpansion-Grows, IsTable-Grows, token-Grows, macros_at-Grows, seen_hidden-Grows}
-use Rattle.sc_expand.proofs.StopsLemmas.{stops-earlier}
-use Rattle.sc_expand.proofs.TakenLemmas.{long-put, taken-put}
+use Rattle.sc_expand.proofs.GatherEnds.{stops-earlier}
 use Rattle.sc_expand.proofs.TakingSteps.{Ends}
 use Rattle.sc_expand.proofs.TakingTurns.{first-both, first-grew, first-item, first-ready, first-taken, first-token, put-ends, put-held, refused-out, step-Grows, take-first, take-turn, take-waits}
 use Rattle.sc_expand.proofs.Terms.{CallNextAlike, Cond, DefineNextAlike, Enclosing, Extends, Grows, HasLast, Hidden, IsAlikeEnclosing, IsAlikeExpansion, IsAlikeTaken, IsCond, IsConfig, IsFirstIn, IsFunctionLike, IsHeldExpansion, IsNever, IsPushed, KeepsLeft, Others, Span, TakesName, Turn, at, is_looked_up, macros_at, others_at, provenance_of, seen_at, seen_hidden, stores, text_of}

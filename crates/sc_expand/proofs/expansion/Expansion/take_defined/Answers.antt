@@ -2,10 +2,9 @@ use Rattle.std.proofs.Common.{◌≡◌, ◌∙◌, ◌||◌, ℕ, true, List, I
 use Rattle.sc_expand.proofs.AlikeLemmas.{alike-of, AreAlike-Keeps, IsAlike-Keeps, IsAlikeIn-Keeps}
 use Rattle.sc_expand.proofs.Facts.{Denotes-self, Extends-refl, IsConfig-Keeps, Keeps-trans, cases_Bool, err_from_is_err_and, items_at-Keeps, or-false}
 use Rattle.sc_expand.proofs.GatherBranches.{first-of-each}
-use Rattle.sc_expand.proofs.WorkListLemmas.{last-later, has_each-Keeps}
+use Rattle.sc_expand.proofs.WorkListLemmas.{last-later, has_each-Keeps, taken-each}
 use Rattle.sc_expand.proofs.SeenLemmas.{AreHeld-Grows, IsHeldExpansion-Grows, at-Grows, seen_at-Grows}
-use Rattle.sc_expand.proofs.StopsLemmas.{stops-weaker}
-use Rattle.sc_expand.proofs.TakenLemmas.{taken-each}
+use Rattle.sc_expand.proofs.GatherEnds.{stops-weaker}
 use Rattle.sc_expand.proofs.TakingParts.{none-found}
 use Rattle.sc_expand.proofs.TakingSteps.{called-comes, has_first-Keeps, object-comes, on-ok, same-step}
 use Rattle.sc_expand.proofs.Terms.{Cond, Frame, Grows, Hidden, IsConfig, at, has_each, has_first, is_function_like, items_at, provenance_of, seen_definition, seen_hidden, stores}

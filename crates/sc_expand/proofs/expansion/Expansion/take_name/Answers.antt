@@ -4,11 +4,10 @@ use Rattle.sc_expand.proofs.AlikeLemmas.{alike-of, IsAlike-Keeps, IsAlikeIn-Keep
 use Rattle.sc_expand.proofs.AlikeTaking.{found-alike, same-defined}
 use Rattle.sc_expand.proofs.Facts.{All-nil, Extends-refl, IsConfig-Keeps, IsConfig-kept, Keeps-trans, err_from_is_err_and}
 use Rattle.sc_expand.proofs.SeenLemmas.{IsHeldExpansion-Grows, at-Grows}
-use Rattle.sc_expand.proofs.StopsLemmas.{stops-earlier}
-use Rattle.sc_expand.proofs.TakenLemmas.{taken-earlier}
+use Rattle.sc_expand.proofs.GatherEnds.{stops-earlier}
+use Rattle.sc_expand.proofs.WorkListLemmas.{taken-earlier, has_each-Keeps}
 use Rattle.sc_expand.proofs.TakingParts.{found-function, none-found, one-found, seen_by, still-untaken}
 use Rattle.sc_expand.proofs.Terms.{AreAlike, At, Comes, Cond, Grows, Hidden, IsAlike, IsBegun, IsFunctionLike, TakesPart, is_looked_up, items_at, macros_at, provenance_of, seen_hidden, step_at, stores, text_of}
-use Rattle.sc_expand.proofs.WorkListLemmas.{has_each-Keeps}
 use Rattle.sc_expand.proofs.expansion.Expansion.take_name.Goals as goal
 
 pub take_parts-requires-clause-held : goal.take_parts-requires-clause-held

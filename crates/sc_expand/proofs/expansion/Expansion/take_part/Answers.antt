@@ -1,13 +1,11 @@
 use Rattle.std.proofs.Common.{◌≡◌, ◌∙◌, ◌||◌, ℕ, true, List, IsTrue, Some, ap, subst, sym}
 use Rattle.sc_expand.proofs.AlikeLemmas.{alike-of, AreAlike-Keeps, IsAlikeIn-Keeps}
 use Rattle.sc_expand.proofs.Facts.{Denotes-self, Extends-refl, IsConfig-Keeps, if_err, or-false, or_right}
-use Rattle.sc_expand.proofs.TakingSteps.{lists-same, has_first-Keeps, last-undefined, on-ok, same-step}
-use Rattle.sc_expand.proofs.PlainCases.{case-undefined}
+use Rattle.sc_expand.proofs.TakingSteps.{lists-same, has_first-Keeps, last-undefined, on-ok, same-step, case-undefined}
 use Rattle.sc_expand.proofs.SeenLemmas.{AreHeld-Grows, IsHeldExpansion-Grows, at-Grows, seen_at-Grows}
-use Rattle.sc_expand.proofs.StopsLemmas.{stops-weaker}
-use Rattle.sc_expand.proofs.TakenLemmas.{taken-each}
+use Rattle.sc_expand.proofs.GatherEnds.{stops-weaker}
+use Rattle.sc_expand.proofs.WorkListLemmas.{taken-each, has_each-Keeps}
 use Rattle.sc_expand.proofs.Terms.{Grows, is_function_like, option_map, seen_definition, seen_hidden, stores}
-use Rattle.sc_expand.proofs.WorkListLemmas.{has_each-Keeps}
 use Rattle.sc_expand.specs.Taking.{IsFunction, IsTaken, kept}
 use Rattle.sc_expand.proofs.expansion.Expansion.take_part.Goals as goal
 

@@ -2,7 +2,7 @@ use Rattle.std.proofs.Common.{◌≡◌, ◌∙◌, ℕ, List, Some, ap, true, s
 use Rattle.sc_expand.proofs.AlikeTaking.{function-earlier}
 use Rattle.sc_expand.proofs.Facts.{IfSome_then, IsConfig-kept, IsHeldDefinition-Extends, Keeps-trans, err_from_is_err_and, slice_get-get_or, take_all}
 use Rattle.sc_expand.proofs.SeenLemmas.{Grows-refl, Grows-trans, seen_hidden-Grows, token-Grows}
-use Rattle.sc_expand.proofs.StopsLemmas.{stops-earlier}
+use Rattle.sc_expand.proofs.GatherEnds.{stops-earlier}
 use Rattle.sc_expand.proofs.TakingParts.{none-taken, part-taken}
 use Rattle.sc_expand.proofs.TakingSteps.{none-before}
 use Rattle.sc_expand.proofs.Terms.{AreTaken, Grows, IsBegun, IsCond, IsFunction, IsHeldDefinition, TakesPart, is_looked_up, seen_hidden, step_at, stores}

@@ -1,9 +1,8 @@
 use Rattle.std.proofs.Common.{◌≡◌, ◌∙◌, [], false, ap, refl, subst, sym}
 use Rattle.sc_expand.proofs.Facts.{All-nil}
-use Rattle.sc_expand.proofs.TakingSteps.{lists-same, last-hidden, same-step}
-use Rattle.sc_expand.proofs.PlainCases.{case-hidden}
+use Rattle.sc_expand.proofs.TakingSteps.{lists-same, last-hidden, same-step, case-hidden}
 use Rattle.sc_expand.proofs.SeenLemmas.{AreHeld-nil}
-use Rattle.sc_expand.proofs.TakenLemmas.{taken-each}
+use Rattle.sc_expand.proofs.WorkListLemmas.{taken-each}
 use Rattle.sc_expand.proofs.Terms.{AreAlike, AreHeld, Cond, Hidden, IsAlike, is_looked_up, seen_at, seen_hidden, stores}
 use Rattle.sc_expand.specs.Taking.{kept}
 use Rattle.sc_expand.proofs.expansion.Expansion.take_under.Goals as goal

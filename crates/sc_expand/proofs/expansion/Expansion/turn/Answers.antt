@@ -1,5 +1,5 @@
 use Rattle.std.proofs.Common.{length, Some, true, vec_len, sym, subst, ◌∙◌}
-use Rattle.sc_expand.proofs.Dropping.{no-first, none-popped, not-some}
+use Rattle.sc_expand.proofs.Rests.{no-first, none-popped, not-some}
 use Rattle.sc_expand.proofs.Facts.{Extends-refl}
 use Rattle.sc_expand.proofs.Terms.{Grows, IsTurned, macros_at, stores}
 use Rattle.sc_expand.proofs.Turning.{call-alone, call-held, called-turn, left-turn, no-turn, popped-held, taken-turn}

@@ -1,6 +1,6 @@
 use Rattle.std.proofs.Common.{◌<◌, ◌≤◌, arith, length}
 use Rattle.sc_expand.proofs.Facts.{common_steps}
-use Rattle.sc_expand.proofs.RestLemmas.{drops-restricted}
+use Rattle.sc_expand.proofs.RestrictLemmas.{drops-restricted}
 use Rattle.sc_expand.proofs.Terms.{items_of}
 use Rattle.sc_expand.proofs.source.Rest.drop_alike.Goals as goal
 

@@ -1,5 +1,5 @@
 use Rattle.std.proofs.Common.{◌∙◌}
-use Rattle.sc_expand.proofs.RestLemmas.{drop-items_of}
+use Rattle.sc_expand.proofs.RestrictLemmas.{drop-items_of}
 use Rattle.sc_expand.proofs.Terms.{items_of}
 use Rattle.sc_expand.proofs.source.Rest.drop_first.Goals as goal
 

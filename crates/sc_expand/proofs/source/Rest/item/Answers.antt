@@ -1,4 +1,4 @@
-use Rattle.sc_expand.proofs.RestLemmas.{other-items_of, restricted-items_of}
+use Rattle.sc_expand.proofs.RestrictLemmas.{other-items_of, restricted-items_of}
 use Rattle.sc_expand.proofs.source.Rest.item.Goals as goal
 
 pub returns-then-index-self : goal.returns-then-index-self
