@@ -1,19 +1,88 @@
 -- Configurations that are alike stay so through the turns of an expansion, where what one of them
 -- looks up is defined alike for both.
-use Rattle.std.proofs.Common.{◌≡◌, ◌&&◌, ℕ, Bool, true, List, [], ◌∷◌, Some, drop, length, map, slice_get, inl, inr, refl, sym, ap, subst, ◌∙◌, if◌then◌else◌}
-use Rattle.sc_expand.proofs.AlikeGathering.{same-call}
+use Rattle.std.proofs.Common.{◌≡◌, ◌&&◌, ℕ, Bool, true, List, [], ◌∷◌, Some, drop, length, map, slice_get, inl, inr, refl, sym, ap, subst, ◌∙◌, if◌then◌else◌, false, ◌++◌, Result, Ok, Err}
+use Rattle.c11_macros.specs.Expansion as expansion
+use Rattle.sc_expand.proofs.AlikeTaking.{same-call}
 use Rattle.sc_expand.proofs.AlikeLemmas.{All-at, AreAlike-Keeps, all-of, others-none}
 use Rattle.sc_expand.proofs.Facts.{All-nil, IsConfig-Keeps, cons-some}
 use Rattle.sc_expand.proofs.KeptLemmas.{rested-alike}
 use Rattle.sc_expand.proofs.MachineLemmas.{pending_at, progress-step, stands-cases, state-top}
-use Rattle.sc_expand.proofs.PlainAgreement.{AgreesFrom, agrees-move, agrees-name, agrees-start, agrees-under}
-use Rattle.sc_expand.proofs.PlainTurns.{under}
-use Rattle.sc_expand.proofs.WaitingLemmas.{pushed-alike}
+use Rattle.sc_expand.proofs.PlainCompletes.{Completes, ends, looked, refuses, resumes, scanned, Covers, covers-front, covers-same, covers-then}
+use Rattle.sc_expand.proofs.PlainMoves.{move-back}
+use Rattle.sc_expand.proofs.PlainTurns.{under, Pending}
 use Rattle.sc_expand.proofs.Rests.{first-is}
 use Rattle.sc_expand.proofs.RunLemmas.{IsRunning, rests-at, running-apart, running-stands, start-state, turned-at}
-use Rattle.sc_expand.proofs.Terms.{AreAlike, At, CallNextAlike, Cond, DefineAlike, DefineNextAlike, Enclosing, Expansion, Grows, Hidden, IsAlike, IsAlikeExpansion, IsAlikeFrame, IsApart, IsConfig, IsHeldExpansion, IsRested, IsSameCall, IsTurned, IsUntouched, IsWithin, KeepsNext, Macros, Place, Progress, Provenance, Sets, Stands, State, Stores, bottom, bottom_by, calls_at, items_at, no_others, provenance_of, scanning, seen_at, seen_hidden, state_by, state_in, view_at}
-use Rattle.sc_expand.proofs.WaitingTaking.{first-of-all}
+use Rattle.sc_expand.proofs.Terms.{AreAlike, At, CallNextAlike, Cond, DefineAlike, DefineNextAlike, Enclosing, Expansion, Grows, Hidden, IsAlike, IsAlikeExpansion, IsAlikeFrame, IsApart, IsConfig, IsHeldExpansion, IsRested, IsSameCall, IsTurned, IsUntouched, IsWithin, KeepsNext, Macros, Place, Progress, Provenance, Sets, Stands, State, Stores, bottom, bottom_by, calls_at, items_at, no_others, provenance_of, scanning, seen_at, seen_hidden, state_by, state_in, view_at, Agree, Expands, Failure, HiddenToken, Leads, Moves, Waiting, case_of, defined_case, expanding, is_looked_up, looked_up_at, looked_up_case, no_step, step, trace, trace_each, trace_rescan, waiting, with_expanded}
+use Rattle.sc_expand.proofs.WaitingLemmas.{pushed-alike}
+use Rattle.sc_expand.proofs.TakingTurns.{first-of-all}
+use Rattle.sc_expand.specs.Plain as plain
 use Rattle.sc_expand.specs.Running as running
+
+-- the name of the first token is looked up, where it is one that is not hidden
+pub head-taken : {P : Type 0} {provenance : Provenance P} {macros : Macros} {t : HiddenToken P} {rest : List (HiddenToken P)} {r : Result (List (HiddenToken P)) (Failure P)} (d : Expands provenance macros (t ∷ rest) r) → Covers (trace d).looked_up (looked_up_at t)
+head-taken {t = t} (expansion.stay is d) = covers-front (looked_up_at t) (trace d).looked_up
+head-taken {t = t} (expansion.object e is g) = covers-front (looked_up_at t) (trace_rescan g).looked_up
+head-taken {t = t} (expansion.unterminated is) = covers-front (looked_up_at t) []
+head-taken {t = t} (expansion.miscounted after is) = covers-front (looked_up_at t) []
+head-taken {t = t} (expansion.call e arguments close after results is each g) =
+    covers-then (covers-front (looked_up_at t ++ []) ((trace_each each).looked_up ++ (trace_rescan g).looked_up)) (covers-front (looked_up_at t) [])
+
+module _ {P : Type 0} (provenance : Provenance P) (macros other : Macros) where
+  -- the tables agree on all names that the state still looks up
+  pub record AgreesFrom (s : State P) : Type 0 where
+    pub agree : (r : Result (List (HiddenToken P)) (Failure P)) (c : Completes provenance macros s r) → Agree macros other (looked c)
+
+  pub agrees-start : (source : List (HiddenToken P)) → ((r : Result (List (HiddenToken P)) (Failure P)) (d : Expands provenance macros source r) → Agree macros other (trace d).looked_up) → AgreesFrom (scanning [] source)
+  agrees-start source agree = record { agree = λ q c. let s = scanned c in subst (Agree macros other) (sym s.named) (agree s.answer s.expands) }
+
+  pub agrees-move : (s t : State P) → AgreesFrom s → Moves provenance macros s t → AgreesFrom t
+  agrees-move s t agrees m = record { agree = λ r c. let e = move-back provenance macros s t m r c in e.covers.agree macros other (agrees.agree r e.completes) }
+
+  module _ (names : List (List ℕ)) (within : IsWithin names macros) where
+    pub agrees-inside : (out work : List (HiddenToken P)) (w : Waiting P) (n : ℕ) (s : State P) → AgreesFrom (expanding out work w n s) → AgreesFrom s
+    agrees-inside out work w n s agrees = record { agree = by }
+      where
+        by : (r : Result (List (HiddenToken P)) (Failure P)) (c : Completes provenance macros s r) → Agree macros other (looked c)
+        by (Ok list) c =
+            let rest = ends provenance macros names within (waiting out work (with_expanded w n list)) in
+            (covers-front (looked c) (looked rest.1)).agree macros other (agrees.agree rest.0 (resumes out work w n s list rest.0 c rest.1))
+        by (Err failure) c = agrees.agree (Err failure) (refuses out work w n s failure c)
+
+    pub agrees-under : (ps : List (Pending P)) (s : State P) → AgreesFrom (under ps s) → AgreesFrom s
+    agrees-under [] s agrees = agrees
+    agrees-under (p ∷ ps) s agrees = agrees-under ps s (agrees-inside p.out p.work p.call p.parameter (under ps s) agrees)
+
+    agrees-head : (out rest : List (HiddenToken P)) (t : HiddenToken P) → AgreesFrom (scanning out (t ∷ rest)) → Agree macros other (looked_up_at t)
+    agrees-head out rest t agrees =
+        let e = ends provenance macros names within (scanning out (t ∷ rest)) in
+        let s = scanned e.1 in
+        (covers-then (covers-same s.named) (head-taken s.expands)).agree macros other (agrees.agree e.0 e.1)
+
+    -- both define the name at the head alike
+    pub agrees-name : (out rest : List (HiddenToken P)) (t : HiddenToken P) → AgreesFrom (scanning out (t ∷ rest)) → is_looked_up t ≡ true → macros t.spelling ≡ other t.spelling
+    agrees-name out rest t agrees looks = (subst (λ b. Agree macros other (if b then t.spelling ∷ [] else [])) looks (agrees-head out rest t agrees)).0
+
+    pub agrees-case : (out rest : List (HiddenToken P)) (t : HiddenToken P) → AgreesFrom (scanning out (t ∷ rest)) → case_of other t rest ≡ case_of macros t rest
+    agrees-case out rest t agrees = by (is_looked_up t) (agrees-head out rest t agrees)
+      where
+        by : (b : Bool) → Agree macros other (if b then t.spelling ∷ [] else []) → looked_up_case other b t.spelling rest ≡ looked_up_case macros b t.spelling rest
+        by true agree = ap (λ o. defined_case o rest) (sym agree.0)
+        by false agree = refl
+
+    -- ---- the same steps and failures
+
+    pub move-agrees : (s t : State P) → Moves provenance macros s t → AgreesFrom s → Moves provenance other s t
+    move-agrees _ _ (plain.stay out rest t is) agrees = plain.stay out rest t (agrees-case out rest t agrees ∙ is)
+    move-agrees _ _ (plain.object out rest body t d is made) agrees = plain.object out rest body t d (agrees-case out rest t agrees ∙ is) made
+    move-agrees _ _ (plain.gather out rest after t close d arguments template is stands) agrees = plain.gather out rest after t close d arguments template (agrees-case out rest t agrees ∙ is) stands
+    move-agrees _ _ (plain.enter out work list w n others is) agrees = plain.enter out work list w n others is
+    move-agrees _ _ (plain.leave out work list w n) agrees = plain.leave out work list w n
+    move-agrees _ _ (plain.replace out work body w all made) agrees = plain.replace out work body w all made
+    move-agrees _ _ (plain.inside out work w n {s} {t} m) agrees = plain.inside out work w n (move-agrees s t m (agrees-inside out work w n s agrees))
+
+    pub leads-agrees : (s t : State P) → Leads provenance macros s t → AgreesFrom s → Leads provenance other s t
+    leads-agrees s _ no_step agrees = no_step
+    leads-agrees s t (step {t = next} m more) agrees = step (move-agrees s next m agrees) (leads-agrees next t more (agrees-move s next agrees m))
 
 -- a configuration that has the first token has it before the others
 pub seen-first : (st : Stores) (c : List ℕ) (work : List (Cond × Hidden)) (item : Cond × Hidden) → slice_get work 0 ≡ Some item → st.sets.has item.0.0 c ≡ true
@@ -39,11 +108,11 @@ bottom-alike {s} {c} {d} e alike = by e.below.items refl
 alike-kept : {old new : Stores} {files : ℕ} {e after : Expansion} {went : Bool} {c d : List ℕ} → Grows old new → KeepsNext old.sets new.sets e after went → IsHeldExpansion old files e
     → IsConfig old.sets.arities c → IsConfig old.sets.arities d → IsApart old.sets e c → IsApart old.sets e d → AreAlike old.sets c d e.top.work → IsAlike new.sets c d after.refusals.waiting → AreAlike old.sets c d e.rest
     → AreAlike new.sets c d after.rest
-alike-kept {new = new} {e = e} {c = c} {d = d} grows (running.nothing_kept empty is) held p q apart other list waiting all =
+alike-kept {new = new} {e = e} {c = c} {d = d} grows (running.nothing_kept empty is) held p q apart other list both all =
     subst (AreAlike new.sets c d) (sym is) (AreAlike-Keeps grows.sets p q e.rest held.rest.own all)
-alike-kept {old} {new} {e = e} {c = c} {d = d} grows (running.first_kept item cond whole none first put has) held p q apart other list waiting all =
+alike-kept {old} {new} {e = e} {c = c} {d = d} grows (running.first_kept item cond whole none first put has) held p q apart other list both all =
     let same : IsAlike old.sets c d item.0 = All-at (λ (x : Cond × Hidden). IsAlike old.sets c d x.0) e.top.work 0 item first list in
-    pushed-alike new.sets c d put (has c p apart ∙ ((λ i. same i && waiting i) ∙ sym (has d q other))) (AreAlike-Keeps grows.sets p q e.rest held.rest.own all)
+    pushed-alike new.sets c d put (has c p apart ∙ ((λ i. same i && both i) ∙ sym (has d q other))) (AreAlike-Keeps grows.sets p q e.rest held.rest.own all)
 
 -- the first tokens are called alike, or neither is
 whole-call : {s : Sets} {names : List (List ℕ)} {c d : List ℕ} (e : Expansion) → IsAlikeExpansion s c d no_others e → IsSameCall s names c d e.top.work

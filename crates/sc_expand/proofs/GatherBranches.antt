@@ -1,6 +1,6 @@
 -- The calls of branches leave their list one after the other.
 use Rattle.std.proofs.Common.{◌≡◌, ℕ, zero, suc, ◌+◌, ◌<◌, ◌≤◌, Bool, true, false, List, [], ◌∷◌, ◌++◌, All, map, take, drop, length, get_or, refl, sym, ap, subst, ◌∙◌, arith, append-nil, if◌then◌else◌}
-use Rattle.sc_expand.proofs.AlikeGathering.{each-behind, places-same}
+use Rattle.sc_expand.proofs.AlikeTaking.{each-behind, places-same}
 use Rattle.sc_expand.proofs.AlikeLemmas.{IsAlike-Keeps}
 use Rattle.sc_expand.proofs.BeginningLemmas.{same_conds}
 use Rattle.sc_expand.proofs.Facts.{All-cons, All-nil, IsConfig-Keeps, IsConfig-kept, form_later, get_or-take, hidden_later, items_later, length-append, length-take, lists_at-append, take_more, text_later}

@@ -1,6 +1,6 @@
 -- What taking the calls of a name out comes to, by how each configuration's call goes on.
 use Rattle.std.proofs.Common.{◌≡◌, ℕ, ◌<◌, not, ◌&&◌, ◌||◌, Bool, true, false, List, [], ◌∷◌, All, get_or, length, map, Some, IsTrue, refl, sym, ap, subst, ◌∙◌, true≢false, arith, if◌then◌else◌}
-use Rattle.sc_expand.proofs.AlikeGathering.{each-end, each-same-call, each-places}
+use Rattle.sc_expand.proofs.AlikeTaking.{each-end, each-same-call, each-places}
 use Rattle.sc_expand.proofs.Facts.{Extends-refl, IsConfig-kept, and-false, and_parts, form_later, hidden_later, text_later}
 use Rattle.sc_expand.proofs.GatherBranches.{first-of-each}
 use Rattle.sc_expand.proofs.GatherCases.{case-still, case-uncalled-alone, case-uncalled-bare, last-alone, not-last, spellings}

@@ -1,9 +1,9 @@
 -- The parts of the configurations of a name, by how its call goes on.
 use Rattle.std.proofs.Common.{◌≡◌, ℕ, ◌≤◌, not, ◌&&◌, ◌||◌, Bool, true, false, List, [], ◌∷◌, All, length, get_or, refl, sym, ap, subst, ◌<◌, true≢false, ◌∙◌, arith, if◌then◌else◌, map, IsTrue}
-use Rattle.sc_expand.proofs.AlikeGathering.{each-end, each-same-call}
+use Rattle.sc_expand.proofs.AlikeTaking.{each-end, each-same-call}
 use Rattle.sc_expand.proofs.AlikeLemmas.{IsAlike-Keeps, IsAlikeIn-Keeps}
 use Rattle.sc_expand.proofs.Facts.{Extends-refl, IsConfig-Keeps, IsConfig-kept, Keeps-trans, and-false, and_parts, hidden_later, lists_at-Keeps}
-use Rattle.sc_expand.proofs.FirstCallLemmas.{and_known}
+use Rattle.sc_expand.proofs.GatherCases.{and_known}
 use Rattle.sc_expand.proofs.GatherBranches.{called-later, spelled-same}
 use Rattle.sc_expand.proofs.GatherEnds.{Ending, end-behind, end-is, ended-first, ended-gathers, ended-other, macro-is}
 use Rattle.sc_expand.proofs.WorkListLemmas.{last-earlier, last-later, has_each-Keeps}

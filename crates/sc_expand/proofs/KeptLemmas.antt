@@ -1,9 +1,8 @@
 -- What those that wait keep of first tokens of the whole list that are gone.
 use Rattle.std.proofs.Common.{◌≡◌, ℕ, Bool, true, false, List, [], ◌∷◌, ◌++◌, All, append_assoc, append-nil, slice_get, Some, sym, ap, subst, refl, ◌∙◌, map, if◌then◌else◌, ◌&&◌}
 use Rattle.sc_expand.proofs.AlikeLemmas.{AreAlike-Keeps, IsAlike-Keeps, none-told}
-use Rattle.sc_expand.proofs.BottomLemmas.{bottom-frame}
+use Rattle.sc_expand.proofs.WaitingLemmas.{bottom-frame, some-Keeps}
 use Rattle.sc_expand.proofs.Facts.{All-append, IsConfig-Keeps, All-cons, All-head, All-nil, All-tail, IsConfig-kept, and_parts, false_from_ne_true}
-use Rattle.sc_expand.proofs.WaitingLemmas.{some-Keeps}
 use Rattle.sc_expand.proofs.SeenLemmas.{seen_at-Grows, seen_at-append}
 use Rattle.sc_expand.proofs.Terms.{AreAlike, Cond, Enclosing, Expansion, Grows, Hidden, IsAlike, IsCond, IsConfig, IsHeldExpansion, IsNever, IsPushed, IsRested, IsRestricted, Keeps, KeepsFirst, KeepsGone, KeepsLeft, Sets, Stores, bottom, bottom_by, items_at, put_out, seen_at, seen_hidden, empty}
 use Rattle.sc_expand.specs.Restricted as restricted

@@ -2,7 +2,7 @@
 use Rattle.std.proofs.Common.{◌≡◌, ◌⊎◌, inl, inr, ℕ, ◌≤◌, Bool, true, false, true≢false, List, [], ◌∷◌, ◌++◌, All, map, length, length-append, refl, sym, ap, subst, ◌∙◌, arith, if◌then◌else◌}
 use Rattle.sc_expand.proofs.Facts.{All-cons, All-head, All-nil, All-push, All-tail, cond-false, cond-true}
 use Rattle.sc_expand.proofs.MachineLemmas.{IsBelow, IsOnTop, alone, below-stands, called_in, goes, pending_at, stands-cases, state-top, stops, top-stands}
-use Rattle.sc_expand.proofs.OpenLemmas.{called-waits, expands-not, under-waits}
+use Rattle.sc_expand.proofs.PlainSettles.{called-waits, expands-not, under-waits}
 use Rattle.sc_expand.proofs.PlainTurns.{move-under, under}
 use Rattle.sc_expand.proofs.Terms.{Call, Enclosing, HiddenToken, IsAbsent, Macros, Moves, Place, Provenance, Stands, Stores, View, Waiting, Waits, calls_at, expanding, no_view, scanning, seen_at, state_by, state_in, state_of, view_at, waiting, waiting_at, with_call, with_expanded, without_first}
 use Rattle.sc_expand.proofs.KeptLemmas.{never-empty}

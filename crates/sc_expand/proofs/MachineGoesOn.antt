@@ -3,7 +3,7 @@ use Rattle.std.proofs.Common.{◌≡◌, ℕ, ◌&&◌, Bool, true, false, true�
 use Rattle.sc_expand.proofs.Facts.{All-cons, All-head, All-nil, All-pop, All-push, All-tail, items_at-under, reverse-append, IsConfig-Keeps, and-false, and-true, All-set, map-set}
 use Rattle.sc_expand.proofs.MachineCalls.{argument_view, called-decides, enter-called, enter-other, argument-decides, calls_at-append, leave-called, leave-other}
 use Rattle.sc_expand.proofs.MachineLemmas.{Stands-Grows, state_in-Grows, turn-progress}
-use Rattle.sc_expand.proofs.OpenLemmas.{waits-not}
+use Rattle.sc_expand.proofs.PlainSettles.{waits-not}
 use Rattle.sc_expand.proofs.SeenLemmas.{AreHeld-nil, ends_at-Grows, view_at-Grows, waiting_at-Grows, calls_at-Grows, seen_at-Grows, seen_at-append}
 use Rattle.sc_expand.proofs.Terms.{AreHeld, Call, Cond, Enclosing, Expansion, Grows, HasEntered, Hidden, Hide, IsCond, IsConfig, IsHeldCall, IsHeldEnclosing, IsHeldExpansion, IsHeldRefusals, IsHeldSet, IsHeldTemplate, IsHeldToken, Macros, Moves, Place, Progress, Provenance, Stands, Stores, Wanted, at, at_call, calls_at, ends_at, gone, is_whole, no_view, rests, seen_at, seen_hidden, seen_list, seen_wanted, state_in, steps, view_at, waiting_at, with_call, without_first, Cause, Denotes, Fails, Failure, Part, Waits, filled_in, hide_at, hiding, provenance_of, replacement_of, result_map, scanning, seen_part, seen_template, state_by, state_of, waiting, with_space, IsResumed, with_expanded}
 use Rattle.sc_expand.specs.Plain as plain

@@ -5,7 +5,7 @@ use Rattle.c11_macros.proofs.Splitting.{split}
 use Rattle.c11_macros.specs.Runs as run
 use Rattle.sc_expand.proofs.Facts.{append_cancel_right, halts, last-stays, leaves-source, leaves-split}
 use Rattle.sc_expand.proofs.NameRuns.{IsInFront, RescanRuns, StateRuns, on, refused, refuses, replaces, resumes, scans_on}
-use Rattle.sc_expand.proofs.PlainAgreement.{head-taken}
+use Rattle.sc_expand.proofs.AlikeRunning.{head-taken}
 use Rattle.sc_expand.proofs.PlainArguments.{replaced_with, supplied}
 use Rattle.sc_expand.proofs.PlainCompletes as completes
 use Rattle.sc_expand.proofs.PlainCompletes.{Completes, Ends, ends, looked, scanned, Covers, covers-front, covers-same, covers-then}

@@ -1,9 +1,8 @@
 -- Configurations that expand one name alike take the same tokens of the list, and have the same of
 -- what was made after each turn.
 use Rattle.std.proofs.Common.{◌≡◌, ◌⊎◌, inl, inr, ℕ, suc, ◌+◌, ◌-◌, ◌<◌, ◌≤◌, Bool, true, false, true≢false, IsTrue, List, [], ◌∷◌, codes, drop, length, map, take, slice_get, Option, None, Some, refl, sym, ap, subst, ◌∙◌, arith, if◌then◌else◌}
-use Rattle.sc_expand.proofs.AlikeGathering.{same-call}
+use Rattle.sc_expand.proofs.AlikeTaking.{same-call, alike-first}
 use Rattle.sc_expand.proofs.AlikeRunning.{seen-first}
-use Rattle.sc_expand.proofs.AlikeTaking.{alike-first}
 use Rattle.sc_expand.proofs.Behind.{below, lower-min}
 use Rattle.sc_expand.proofs.Facts.{IsConfig-Keeps, cons-some, length-map, take_all}
 use Rattle.sc_expand.proofs.GatherCases.{spellings}
@@ -11,9 +10,8 @@ use Rattle.sc_expand.proofs.GatherPlaces.{spelled-behind}
 use Rattle.sc_expand.proofs.MachineLemmas.{pending_at, stands-cases, state-top}
 use Rattle.sc_expand.proofs.NameRuns.{IsInFront, StateRuns}
 use Rattle.sc_expand.proofs.NameUses.{state-looks}
-use Rattle.sc_expand.proofs.PhaseCalls.{Defined, closed-takes, function-of, span-count}
+use Rattle.sc_expand.proofs.PhaseSpans.{Defined, closed-takes, function-of, span-count, IsInside, here, inside-span}
 use Rattle.sc_expand.proofs.PhaseMoves.{takes-pending}
-use Rattle.sc_expand.proofs.PhaseSpans.{IsInside, here, inside-span}
 use Rattle.sc_expand.proofs.Phases.{IsReady, PairStands, Phase, Spans, as_one, bound_of, come_through, last_at, state_now}
 use Rattle.sc_expand.proofs.PlainCompletes.{covers-then}
 use Rattle.sc_expand.proofs.PlainTurns.{under}

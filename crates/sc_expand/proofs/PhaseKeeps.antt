@@ -3,10 +3,9 @@
 use Rattle.std.proofs.Common.{◌≡◌, ℕ, suc, ◌+◌, ◌-◌, ◌<◌, ◌≤◌, ◌&&◌, nat_lt, Bool, true, false, true≢false, List, [], ◌∷◌, ◌++◌, All, append-nil, append_assoc, drop, length, length-append, map, Some, slice_get, take, refl, sym, ap, subst, ◌∙◌, arith, inl, inr, ◌⊎◌, if◌then◌else◌}
 use Rattle.sc_expand.proofs.AlikeLemmas.{All-but-tail}
 use Rattle.sc_expand.proofs.AlikeTaking.{alike-first}
-use Rattle.sc_expand.proofs.Behind.{Fall, Fall-weaker, below, below-all, below-has, below-not}
+use Rattle.sc_expand.proofs.Behind.{Fall, Fall-weaker, below, below-all, below-has, below-not, length-seen, same-drop}
 use Rattle.sc_expand.proofs.Facts.{All-cons, All-head, All-nil, All-tail, IsConfig-Keeps, and_parts, cases_eq, cases_lt, eq-eqb, le-ltb, length-drop, length-map, lt-ltb, ne_eqb, and_right, nil_from_length}
 use Rattle.sc_expand.proofs.NamedItems.{indexes-append, indexes-Keeps, indexes-long, item-none, item-one, item-whole}
-use Rattle.sc_expand.proofs.PhaseLists.{length-seen, same-drop}
 use Rattle.sc_expand.proofs.RunLemmas.{IsRunning, running-apart}
 use Rattle.sc_expand.proofs.SeenLemmas.{seen_at-Grows, seen_at-append}
 use Rattle.sc_expand.proofs.Terms.{AreAlike, Cond, Expansion, Grows, Hidden, IsAlike, IsCond, IsConfig, IsRestricted, Macros, Sets, Stores, behind_at, indexes_in, items_at, of_item, seen_at, seen_hidden}

@@ -1,12 +1,11 @@
 -- A phase stays one through a turn: where the configurations stand, and which of its own items each
 -- has left.
 use Rattle.std.proofs.Common.{◌≡◌, ◌⊎◌, inl, inr, ℕ, ◌+◌, ◌<◌, ◌≤◌, Bool, true, false, true≢false, List, [], ◌∷◌, ◌++◌, drop, length, map, Some, None, slice_get, take, refl, sym, ap, subst, ◌∙◌, arith, if◌then◌else◌}
-use Rattle.sc_expand.proofs.Behind.{below, below-not, last-below, last-fewer, last-suffix, more-same, lower-all, lower-is, lower-min}
+use Rattle.sc_expand.proofs.Behind.{below, below-not, last-below, last-fewer, last-suffix, more-same, lower-all, lower-is, lower-min, length-seen}
 use Rattle.sc_expand.proofs.Facts.{All-pop, IsConfig-Keeps, drop-drop, take-append-le}
 use Rattle.sc_expand.proofs.MachineCalls.{calls_at-append}
 use Rattle.sc_expand.proofs.MachineLemmas.{IsBelow, IsOnTop, alone, called_in, goes, no-move, progress-step, stands-cases, stops}
 use Rattle.sc_expand.proofs.PhaseKeeps.{below-most}
-use Rattle.sc_expand.proofs.PhaseLists.{length-seen}
 use Rattle.sc_expand.proofs.PhaseSegments.{held-take}
 use Rattle.sc_expand.proofs.Phases.{IsReady, Phase, last_at, state_now, tokens_from}
 use Rattle.sc_expand.proofs.PassesLaws.{Placed, placed-move}

@@ -3,14 +3,13 @@
 use Rattle.std.proofs.Common.{◌≡◌, ◌⊎◌, inl, inr, ℕ, ◌+◌, ◌-◌, ◌<◌, ◌≤◌, ◌&&◌, Bool, true, false, true≢false, List, [], ◌∷◌, ◌++◌, All, append-nil, drop, length, length-append, None, Some, slice_get, take, refl, sym, ap, subst, ◌∙◌, arith, if◌then◌else◌}
 use Rattle.sc_expand.proofs.AlikeLemmas.{AreAlike-Keeps}
 use Rattle.sc_expand.proofs.AlikeRunning.{seen-first}
-use Rattle.sc_expand.proofs.Behind.{below, Fall, behind-falls, below-all, below-not, lower-min}
+use Rattle.sc_expand.proofs.Behind.{below, Fall, behind-falls, below-all, below-not, lower-min, length-seen, slice-drop}
 use Rattle.sc_expand.proofs.Facts.{All-append, All-cons, All-drop, All-nil, IsConfig-Keeps, IsConfig-kept, and-false, false_from_ne_true, items_at-Keeps, items_at-append, length-map, nil_from_length, drop-append-le}
 use Rattle.sc_expand.proofs.GatherPlaces.{spelled-behind}
 use Rattle.sc_expand.proofs.NamedItems.{indexes-long, item-all, item-append, item-lacks, item-whole, lacks-alike, same-name-Keeps, same-name-more, first-alone, item-none}
 use Rattle.sc_expand.proofs.PhaseAlike.{IsLast, alike-after, calls-or-last, first-both}
-use Rattle.sc_expand.proofs.PhaseCalls.{below-fewer, function-of, span-count, stays-moves, unclosed-ends, uncalled-case}
+use Rattle.sc_expand.proofs.PhaseSpans.{below-fewer, function-of, span-count, stays-moves, unclosed-ends, uncalled-case}
 use Rattle.sc_expand.proofs.PhaseKeeps.{more-alike, more-at, more-count, more-has, more-lacks, more-of, more-same, same-slice, more-first-had, more-idle, more-once}
-use Rattle.sc_expand.proofs.PhaseLists.{length-seen, slice-drop}
 use Rattle.sc_expand.proofs.PhaseMoves.{ended-state, first-far, first-more, moved-pending, rest-own, takes-pending, has-moved, moved-fits, moved-place, moved-suffix}
 use Rattle.sc_expand.proofs.PhaseSegments.{kept-none}
 use Rattle.sc_expand.proofs.PhaseWaits.{before-later, begins-at, begins-later, behind-later, kept-later-is, kept-own, low-later, waits-later}

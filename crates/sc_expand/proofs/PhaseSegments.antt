@@ -1,14 +1,13 @@
 -- What a phase has put out is that of its item, behind what was put out for those before it.
 use Rattle.std.proofs.Common.{◌≡◌, ◌⊎◌, inl, inr, ℕ, zero, suc, ◌+◌, ◌-◌, ◌<◌, ◌≤◌, Bool, true, false, true≢false, List, [], ◌∷◌, ◌++◌, All, append-nil, Some, Ok, Err, drop, flat_map, length, length-append, map, slice_get, take, refl, sym, ap, ◌∙◌, subst, arith}
 use Rattle.c11_macros.proofs.SettlesLaws.{one-settled}
-use Rattle.sc_expand.proofs.Behind.{Fall-weaker, behind-falls, below, below-all, below-items}
+use Rattle.sc_expand.proofs.Behind.{Fall-weaker, behind-falls, below, below-all, below-items, length-seen}
 use Rattle.sc_expand.proofs.Facts.{All-drop, All-take, IsConfig-Keeps, append_cancel_left, cases_lt, drop-append_seam, drop_all, flat_map-append, items_at-Keeps, length-drop, length-map, slice_get-front, slice_get-seam, slice_get_within, take-append-drop, take-append_seam, true_from_ne_false, nil_from_length}
 use Rattle.sc_expand.proofs.MachineLemmas as told
 use Rattle.sc_expand.proofs.MachineLemmas.{IsTold}
 use Rattle.sc_expand.proofs.NamedItems.{first-alone, indexes-long, item-all, item-append, item-lacks, item-none, same-name-Keeps}
 use Rattle.sc_expand.proofs.Phases.{come-many, comes-by, from-later, Begins, Comes, Itself, PairStands, Phase, Puts, Segments, Settling, Spans, Waiting, as_one, at_item, at_start, bound_of, come_through, last_at, state_now, tokens_from}
 use Rattle.sc_expand.proofs.PhaseKeeps.{number}
-use Rattle.sc_expand.proofs.PhaseLists.{length-seen}
 use Rattle.sc_expand.proofs.PassesLaws.{IsNext, Placed, away, inside, passed, placed-between, within-more}
 use Rattle.sc_expand.proofs.RunLemmas.{IsRunning, told-apart}
 use Rattle.sc_expand.proofs.SeenLemmas.{seen_at-Grows, seen_at-append}

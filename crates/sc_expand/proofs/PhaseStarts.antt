@@ -1,15 +1,14 @@
 -- A phase of an expansion begins: with the whole list, and at each name of it.
 use Rattle.std.proofs.Common.{◌≡◌, ◌⊎◌, inl, inr, ℕ, zero, suc, ◌+◌, ◌-◌, ◌<◌, ◌≤◌, ◌&&◌, Bool, true, false, true≢false, List, [], ◌∷◌, ◌++◌, All, Some, drop, length, length-append, map, slice_get, take, refl, sym, ap, subst, ◌∙◌, arith, if◌then◌else◌}
 use Rattle.sc_expand.proofs.AlikeLemmas.{AreAlike-Keeps, IsAlike-Keeps}
-use Rattle.sc_expand.proofs.Behind.{Fall, Fall-weaker, behind-falls, below, below-all, below-behind, below-not, lower-bounds, lower-least, lower-min}
-use Rattle.sc_expand.proofs.BottomLemmas.{behind-Keeps, bottom-frame}
+use Rattle.sc_expand.proofs.Behind.{Fall, Fall-weaker, behind-falls, below, below-all, below-behind, below-not, lower-bounds, lower-least, lower-min, alike-behind, below-from, below-same, first-had, length-seen, same-end, seen-drop, seen-name, take-least}
+use Rattle.sc_expand.proofs.WaitingLemmas.{behind-Keeps, bottom-frame}
 use Rattle.sc_expand.proofs.Facts.{All-append, All-cons, All-drop, All-head, All-nil, All-take, IsConfig-Keeps, IsConfig-kept, and_parts, append-nil, append_assoc, cases_lt, drop-drop, drop_all, items_at-Keeps, length-drop, map-append, take-take, take_all}
 use Rattle.sc_expand.proofs.MachineLemmas.{progress-step}
 use Rattle.sc_expand.proofs.NamedItems.{first-alone, indexes-append, indexes-Keeps, item-all, item-append, item-none, same-name-Keeps, same-name-more}
 use Rattle.sc_expand.proofs.PassesLaws.{passes-end, IsNext, Placed, away, placed-next}
 use Rattle.sc_expand.proofs.Phases.{come-many, from-later, Begins, Comes, HasItem, IsFresh, IsOver, IsReady, IsWorn, PairStands, Phase, Segments, Settling, Spans, Waiting, as_one, at_item, at_start, bound_of, come_through, indexes_now, last_at, state_now, tokens_from}
 use Rattle.sc_expand.proofs.PhaseKeeps.{all-below, all-fall, fronts-alike, fronts-lack, low-behind, number, numbered, numbered-once, numbered-none, numbered-own, numbered-alike, numbered-behind, numbered-idle, numbered-indexes, numbered-is, numbered-lacks, numbered-later, numbers-first, numbers-same}
-use Rattle.sc_expand.proofs.PhaseLists.{alike-behind, below-from, below-same, first-had, length-seen, same-end, seen-drop, seen-name, take-least}
 use Rattle.sc_expand.proofs.PhaseMoves.{first-more}
 use Rattle.sc_expand.proofs.PhaseSegments.{bottom-is, held-drop, held-take, out-is, own-few, phase-segments, puts-as, segments-Grows, segments-kept, settles-on, stands, state-is}
 use Rattle.sc_expand.proofs.Rests.{none-some}

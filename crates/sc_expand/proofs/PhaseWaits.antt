@@ -1,12 +1,11 @@
 -- What a phase has put out, through a turn, and what is put out for the item of who begins to wait.
 use Rattle.std.proofs.Common.{◌≡◌, ◌∙◌, ℕ, ◌≤◌, Bool, true, false, true≢false, List, [], ◌∷◌, ◌++◌, ◌-◌, ◌<◌, All, append-nil, drop, length, length-append, map, suc, ◌+◌, Some, None, slice_get, take, refl, sym, ap, subst, arith}
-use Rattle.sc_expand.proofs.Behind.{behind-falls, below, below-behind}
+use Rattle.sc_expand.proofs.Behind.{behind-falls, below, below-behind, length-seen, same-drop}
 use Rattle.sc_expand.proofs.Facts.{All-append, IsConfig-Keeps, IsConfig-kept, append_cancel_left, drop-drop, drop-map, false_from_ne_true, length-drop, length-map, map-append, take-append-drop}
 use Rattle.sc_expand.proofs.WorkListLemmas.{behind-drop}
 use Rattle.sc_expand.proofs.PassesLaws.{none-behind, placed-within}
 use Rattle.sc_expand.proofs.Phases.{come-many, comes-by, from-later, item-is, Begins, Comes, IsReady, Phase, Segments, Waiting, WaitsHere, at_item, at_start, indexes_now, last_at, state_now, tokens_from}
 use Rattle.sc_expand.proofs.PhaseKeeps.{more-at, more-idle, more-is, more-of, number, numbers-parts, waits-turned}
-use Rattle.sc_expand.proofs.PhaseLists.{length-seen, same-drop}
 use Rattle.sc_expand.proofs.PhaseMoves.{ended-state, first-far, first-out, held-first, start-later, state-bottom, takes-pending}
 use Rattle.sc_expand.proofs.PhaseSegments.{indexes-none, puts-as, segments-Grows, segments-kept}
 use Rattle.sc_expand.proofs.PassesLaws as placed

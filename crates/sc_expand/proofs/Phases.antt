@@ -1,11 +1,10 @@
 -- The expansion of one name of the list under all configurations that come to it: where each
 -- stands, and what those that expand it alike have alike.
 use Rattle.std.proofs.Common.{◌≡◌, ℕ, suc, ◌+◌, ◌-◌, ◌≤◌, List, [], ◌∷◌, Some, drop, length, slice_get, sym, ap, ◌∙◌, subst, arith, ◌⊎◌, ◌<◌, Bool, true, false, ◌++◌, All, map, take}
-use Rattle.sc_expand.proofs.Behind.{below}
+use Rattle.sc_expand.proofs.Behind.{below, same-end, seen-drop, seen-name, slice-drop}
 use Rattle.sc_expand.proofs.Facts.{drop-cons, drop-drop, get_or_from_slice_get, length-drop, slice_get_within}
 use Rattle.sc_expand.proofs.PassesLaws.{passes-end, run-same, Placed}
 use Rattle.sc_expand.proofs.PhaseKeeps.{number}
-use Rattle.sc_expand.proofs.PhaseLists.{same-end, seen-drop, seen-name, slice-drop}
 use Rattle.sc_expand.proofs.Terms.{End, Expansion, HiddenToken, Macros, Passes, Place, Runs, Stores, Uses, provenance_of, seen_at, seen_hidden, AreAlike, ComesAt, Cond, Hidden, InSegments, IsAlikeExpansion, IsConfig, IsItself, IsPending, IsSameName, IsSettling, IsSpan, Others, PutsOutAt, State, Waits, WaitsAs, behind_at, bottom, indexes_in, items_at, lower_of, of_item, put_out, scanning, state_in, view_at}
 
 abbrev pub state_now : Stores → Expansion → List ℕ → State Place

@@ -1,9 +1,10 @@
 -- What the loop keeps at a configuration of a list with an open end: it stands between two names of
 -- the list, or in the expansion of one.
-use Rattle.std.proofs.Common.{◌≡◌, List, [], ◌∷◌, ◌++◌, append-nil, length, refl, sym, ap, ◌∙◌, subst, arith}
+use Rattle.std.proofs.Common.{◌≡◌, List, [], ◌∷◌, ◌++◌, append-nil, length, refl, sym, ap, ◌∙◌, subst, arith, ℕ}
 use Rattle.c11_macros.specs.Runs.{Passes, begins, goes_on, Runs, Settles, Uses, whole, open_end, IsHeld, held, fails, over, waits}
 use Rattle.sc_expand.proofs.NameRuns.{IsInFront, NameReaches, fails-runs, name-move, name-over, name-start, name-waits, tail-is}
-use Rattle.sc_expand.proofs.Terms.{Fails, Failure, HiddenToken as Hidden, Macros, Moves, Provenance, State, expanding, scanning, waiting}
+use Rattle.sc_expand.proofs.PlainTurns.{Pending, under}
+use Rattle.sc_expand.proofs.Terms.{Fails, Failure, HiddenToken as Hidden, Macros, Moves, Provenance, State, expanding, scanning, waiting, HiddenToken, Place, Waiting, state_by}
 use Rattle.sc_expand.specs.Open.{LeadsOn, Waits, alone, no_step, open_call, step}
 use Rattle.sc_expand.specs.Plain as plain
 
@@ -157,3 +158,29 @@ module _ {P : Type 0} (provenance : Provenance P) (macros : Macros) where
       by (g ∷ rest) w x =
           let n = waited-at out rest g x w in
           subst (λ l. Settles provenance macros source l (g ∷ rest)) (sym n.is) (open_end n.uses x.passes n.runs)
+
+-- ---- a call that waits for its arguments doesn't wait for what follows the list
+
+module _ {macros : Macros} where
+  pub waits-not : {out work : List (HiddenToken Place)} {w : Waiting Place} → Waits macros (waiting out work w) → ⊥
+  waits-not it = by it refl
+    where
+      by : {out work : List (HiddenToken Place)} {w : Waiting Place} {s : State Place} → Waits macros s → s ≡ waiting out work w → ⊥
+      by (alone out rest t is) e = cc
+      by (open_call out rest t is) e = cc
+
+  pub expands-not : {out work : List (HiddenToken Place)} {w : Waiting Place} {n : ℕ} {s : State Place} → Waits macros (expanding out work w n s) → ⊥
+  expands-not it = by it refl
+    where
+      by : {out work : List (HiddenToken Place)} {w : Waiting Place} {n : ℕ} {r s : State Place} → Waits macros r → r ≡ expanding out work w n s → ⊥
+      by (alone out rest t is) e = cc
+      by (open_call out rest t is) e = cc
+
+  -- nor does the list around it
+  pub under-waits : (ps : List (Pending Place)) (s : State Place) → (Waits macros s → ⊥) → Waits macros (under ps s) → ⊥
+  under-waits [] s free w = free w
+  under-waits (p ∷ ps) s free w = expands-not w
+
+  pub called-waits : (out work : List (HiddenToken Place)) (calls : List (Waiting Place)) (w : Waiting Place) → Waits macros (state_by out work (calls ++ w ∷ [])) → ⊥
+  called-waits out work [] w it = waits-not it
+  called-waits out work (k ∷ ks) w it = waits-not it

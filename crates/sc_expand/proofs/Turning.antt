@@ -1,7 +1,7 @@
 -- A turn of the loop, by what it takes.
 use Rattle.std.proofs.Common.{◌≡◌, inl, inr, ℕ, suc, ◌≤◌, Bool, true, false, true≢false, List, [], ◌∷◌, ◌++◌, All, length, append-nil, Option, Some, None, option_to_list, slice_get, refl, sym, ap, subst, ◌∙◌, arith, if◌then◌else◌}
 use Rattle.sc_expand.proofs.AlikeLemmas.{alike-leave}
-use Rattle.sc_expand.proofs.BottomLemmas.{bottom-held, bottom-less, bottom-same, more-none}
+use Rattle.sc_expand.proofs.WaitingLemmas.{bottom-held, bottom-less, bottom-same, more-none, same-left}
 use Rattle.sc_expand.proofs.Rests.{IsNone, next-argument, next-call, put-less, put-same, some-same, none-some}
 use Rattle.sc_expand.proofs.Facts.{All-head, All-pop, IsConfig-Keeps}
 use Rattle.sc_expand.proofs.MachineCalls.{calls_at-append, last-alone}
@@ -10,7 +10,6 @@ use Rattle.sc_expand.proofs.MachineLemmas.{stands-cases, turn-progress}
 use Rattle.sc_expand.proofs.SeenLemmas.{Grows-refl, seen_at-Grows}
 use Rattle.sc_expand.proofs.Terms.{AreHeld, Call, CallNextAlike, Cond, DefineNextAlike, Enclosing, Expansion, Frame, Grows, HasLast, HasMore, Hidden, IsAlikeCall, IsAlikeEnclosing, IsAlikeExpansion, IsAlikeFrame, IsConfig, IsExpansion, IsFirstIn, IsHeldCall, IsHeldEnclosing, IsHeldExpansion, IsHeldFrame, IsResumed, Macros, Others, Progress, Sets, Stands, Stores, TakesName, Vec, View, at, at_call, calls_at, others_at, provenance_of, rests, seen_at, state_in, view_at, waiting_at, with_call}
 use Rattle.sc_expand.proofs.KeptLemmas.{never-empty}
-use Rattle.sc_expand.proofs.WaitingLemmas.{same-left}
 use Rattle.sc_expand.specs.Running as running
 use Rattle.sc_expand.specs.Running.{GoesOn, IsAsLong, IsReady, IsTurned, KeepsLeft, KeepsNext, Pushes, PutsOut, Rest, TakesFirst, bottom, bottom_by, last_of, next_by, next_of, put_by, put_out}
 use Rattle.sc_expand.specs.Restricted.{IsPushed}

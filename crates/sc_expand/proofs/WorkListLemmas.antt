@@ -1,8 +1,7 @@
 -- A list whose first items are restricted to a condition, one after the other.
 use Rattle.std.proofs.Common.{◌≡◌, ◌⊎◌, ◌∙◌, ℕ, zero, suc, ◌≤◌, ◌++◌, Bool, true, false, List, [], ◌∷◌, All, drop, take, length, inl, refl, sym, ap, subst, if◌then◌else◌, ◌≢◌, ◌<◌, inr, ◌+◌, ◌&&◌, map, get_or, set, arith, add-zero, true≢false, length-append}
-use Rattle.sc_expand.proofs.Behind.{Fall, behind-falls, length-behind}
+use Rattle.sc_expand.proofs.Behind.{Fall, behind-falls, length-behind, first-had}
 use Rattle.sc_expand.proofs.Facts.{All-drop, All-nil, length-map, All-head, All-set, All-tail, All-take, IsConfig-Keeps, Keeps-trans, and-true, cases_eq, drop-drop, drop-set-lt, get_or-drop, get_or-map, get_or-set_other, get_or-set_same, get_or-take, get_or_default, items_at-Keeps, items_at-append, items_at-take, length-take, map-set, set-get_or, take_more_set, All-cons, length-drop}
-use Rattle.sc_expand.proofs.PhaseLists.{first-had}
 use Rattle.sc_expand.proofs.Terms.{Cond, HasLast, Hidden, IsCond, IsConfig, Keeps, Sets, behind_at, has_each, items_at, AreAlike, Denotes, IsAlike, HasTaken, has_first}
 
 module _ {T : Type 0} where

@@ -3,7 +3,7 @@ use Rattle.sc_expand.proofs.AlikeLemmas.{IsAlike-Keeps, all-back}
 use Rattle.sc_expand.proofs.Ending.{bared}
 use Rattle.sc_expand.proofs.ExpandLemmas.{answer-alike, answer-held, answer-some, done-empty, done-expanded, hidden-held, source-defines}
 use Rattle.sc_expand.proofs.Facts.{IsConfig-Keeps, IsTable-Extends, IsTable-Keeps, Keeps-trans, err_from_is_err_and, macros_at-Extends, macros_at-Keeps}
-use Rattle.sc_expand.proofs.FootprintPlaces.{text-stops}
+use Rattle.sc_expand.proofs.FootprintLemmas.{text-stops}
 use Rattle.sc_expand.proofs.PlainTables.{entry_names, within-table}
 use Rattle.sc_expand.proofs.SpanFootprints.{apart-stops}
 use Rattle.sc_expand.proofs.Terms.{AreAlike, Cond, IsAlike, Token, macros_at, provenance_of, seen_hidden}

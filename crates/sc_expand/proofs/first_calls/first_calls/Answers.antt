@@ -1,5 +1,5 @@
 use Rattle.std.proofs.Common.{◌∙◌, refl, sym}
-use Rattle.sc_expand.proofs.FirstCallLemmas.{Denotes-closed, Denotes-other, IsClosedCall-known}
+use Rattle.sc_expand.proofs.GatherCases.{Denotes-closed, Denotes-other, IsClosedCall-known}
 use Rattle.sc_expand.proofs.Terms.{alone, bare, still}
 use Rattle.sc_expand.proofs.first_calls.first_calls.Goals as goal
 

@@ -1,5 +1,5 @@
 use Rattle.std.proofs.Common.{◌≡◌, ◌∙◌, ◌++◌, [], ◌∷◌, ap, arith}
-use Rattle.sc_expand.proofs.FirstCallLemmas.{indexes_from-more}
+use Rattle.sc_expand.proofs.GatherCases.{indexes_from-more}
 use Rattle.sc_expand.proofs.Terms.{indexes_from}
 use Rattle.sc_expand.proofs.first_calls.indexes_to.Goals as goal
 

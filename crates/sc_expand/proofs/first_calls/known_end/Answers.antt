@@ -1,4 +1,4 @@
-use Rattle.sc_expand.proofs.FirstCallLemmas.{held-under}
+use Rattle.sc_expand.proofs.GatherCases.{held-under}
 use Rattle.sc_expand.proofs.first_calls.known_end.Goals as goal
 
 pub closing-requires-clause-names : goal.closing-requires-clause-names

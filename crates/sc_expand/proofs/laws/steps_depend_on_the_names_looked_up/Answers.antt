@@ -1,6 +1,6 @@
 use Rattle.std.proofs.Common.{[], ap, subst}
 use Rattle.sc_expand.proofs.Facts.{one}
-use Rattle.sc_expand.proofs.PlainAgreement.{agrees-start, leads-agrees}
+use Rattle.sc_expand.proofs.AlikeRunning.{agrees-start, leads-agrees}
 use Rattle.sc_expand.proofs.Terms.{Agree, scanning}
 use Rattle.sc_expand.proofs.laws.steps_depend_on_the_names_looked_up.Goals as goal
 

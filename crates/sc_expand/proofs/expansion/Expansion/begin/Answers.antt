@@ -1,5 +1,5 @@
 use Rattle.std.proofs.Common.{All, map, refl, sym, ap, subst, ◌∙◌}
-use Rattle.sc_expand.proofs.AlikeGathering.{begun-alike}
+use Rattle.sc_expand.proofs.AlikeTaking.{begun-alike}
 use Rattle.sc_expand.proofs.BeginningLemmas.{in_none, in_some, is_gathered, is_template}
 use Rattle.sc_expand.proofs.Facts.{All-push, Keeps-refl}
 use Rattle.sc_expand.proofs.LeavingLemmas.{pushed-at, pushed-held, pushed-other, refused-alike, refused-ends, refused-held, refused-live, refused-other}

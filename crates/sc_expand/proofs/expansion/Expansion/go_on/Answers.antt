@@ -1,13 +1,12 @@
 use Rattle.std.proofs.Common.{rules, ◌≡◌, ◌&&◌, append-nil, ◌++◌, All, Some, None, option_to_list, length, reverse, map, refl, sym, ap, subst, ◌∙◌, arith, if◌then◌else◌}
 use Rattle.sc_expand.proofs.AlikeLemmas.{alike-enter, alike-narrowed, IsAlikeExpansion-Keeps}
-use Rattle.sc_expand.proofs.BottomLemmas.{bottom-held, bottom-less, more-Keeps, more-none}
+use Rattle.sc_expand.proofs.WaitingLemmas.{bottom-held, bottom-less, more-Keeps, more-none, left-Grows, same-left}
 use Rattle.sc_expand.proofs.Facts.{All-pop, Denotes-self, Extends-refl, IsConfig-Keeps, IsConfig-kept, Keeps-trans, and-true, and_parts}
 use Rattle.sc_expand.proofs.MachineGoesOn.{entered-held, entered-progress, later-held, replaced-progress}
 use Rattle.sc_expand.proofs.Rests.{put-same}
 use Rattle.sc_expand.proofs.SeenLemmas.{IsHeldCall-Grows, IsHeldExpansion-Grows, calls_at-Grows, ends_at-Grows, view_at-Grows, waiting_at-Grows}
 use Rattle.sc_expand.proofs.TakingSteps.{on-ok}
 use Rattle.sc_expand.proofs.Terms.{GoesOn, Grows, IsHeldToken, Progress, Wanted, at, at_call, bottom, bottom_by, provenance_of, put_by, seen_wanted, stores, waiting_at, with_call}
-use Rattle.sc_expand.proofs.WaitingLemmas.{left-Grows, same-left}
 use Rattle.sc_expand.proofs.expansion.Expansion.go_on.Goals as goal
 
 pub returns-in-Some-clause-gone_on : goal.returns-in-Some-clause-gone_on

@@ -1,13 +1,12 @@
 use Rattle.std.proofs.Common.{◌≡◌, ◌-◌, ◌++◌, All, Ok, arith, length, length-append, map, take, refl, sym, ap, subst, ◌∙◌}
 use Rattle.sc_expand.proofs.AlikeLemmas.{All-but-put, IsAlikeExpansion-Keeps}
-use Rattle.sc_expand.proofs.BottomLemmas.{bottom-held, bottom-long, more-bottom, more-none}
+use Rattle.sc_expand.proofs.WaitingLemmas.{bottom-held, bottom-long, more-bottom, more-none, put-left, same-left, unless}
 use Rattle.sc_expand.proofs.Facts.{Extends-refl}
 use Rattle.sc_expand.proofs.LeavingLemmas.{refused-ends-if, refused-held}
 use Rattle.sc_expand.proofs.MachineGoesOn.{refused-turn, replaced-turn}
 use Rattle.sc_expand.proofs.SeenLemmas.{AreHeld-append, IsHeldExpansion-Grows}
 use Rattle.sc_expand.proofs.TakingSteps.{on-ok}
 use Rattle.sc_expand.proofs.Terms.{AreAlike, AreHeld, Cond, Grows, Hidden, IsAlike, IsHeldPartIn, IsHeldTemplate, bottom, others_at, seen_part, seen_template, stores}
-use Rattle.sc_expand.proofs.WaitingLemmas.{put-left, same-left, unless}
 use Rattle.sc_expand.proofs.expansion.Expansion.replace.Goals as goal
 
 pub returns-in-Parts-clause-replaced : goal.returns-in-Parts-clause-replaced

@@ -1,7 +1,6 @@
 use Rattle.std.proofs.Common.{◌≡◌, ◌∙◌, ◌≤◌, ◌++◌, ℕ, suc, true, All, List, Some, ap, arith, drop, length, sym, subst, ◌&&◌, refl, slice_get}
-use Rattle.sc_expand.proofs.AlikeGathering.{each-same-call}
+use Rattle.sc_expand.proofs.AlikeTaking.{each-same-call, alike-first, put-alike, same-long, takes-name, whole-same}
 use Rattle.sc_expand.proofs.AlikeLemmas.{AreAlike-Keeps, IsAlike-Keeps, alike-of, in-whole, whole, whole-in, IsAlikeExpansion-Keeps, IsAlikeIn-Keeps}
-use Rattle.sc_expand.proofs.AlikeTaking.{alike-first, put-alike, same-long, takes-name, whole-same}
 use Rattle.sc_expand.proofs.Facts.{All-append, All-drop, Extends-refl, IsConfig-Keeps, IsConfig-kept, Keeps-trans, err_from_is_err_and}
 use Rattle.sc_expand.proofs.WorkListLemmas.{last-earlier, last-later, has_each-Keeps, long-put, taken-put}
 use Rattle.sc_expand.proofs.WaitingLemmas.{pushed-some, some-Keeps}
@@ -9,9 +8,8 @@ use Rattle.sc_expand.proofs.Rests.{some-same}
 use Rattle.sc_expand.proofs.SeenLemmas.{AreHeld-Grows, IsHeldExpansion-Grows, IsTable-Grows, token-Grows, macros_at-Grows, seen_hidden-Grows}
 use Rattle.sc_expand.proofs.GatherEnds.{stops-earlier}
 use Rattle.sc_expand.proofs.TakingSteps.{Ends}
-use Rattle.sc_expand.proofs.TakingTurns.{first-both, first-grew, first-item, first-ready, first-taken, first-token, put-ends, put-held, refused-out, step-Grows, take-first, take-turn, take-waits}
+use Rattle.sc_expand.proofs.TakingTurns.{first-both, first-grew, first-item, first-ready, first-taken, first-token, put-ends, put-held, refused-out, step-Grows, take-first, take-turn, take-waits, put-out-keeps, put-out-left}
 use Rattle.sc_expand.proofs.Terms.{CallNextAlike, Cond, DefineNextAlike, Enclosing, Extends, Grows, HasLast, Hidden, IsAlikeEnclosing, IsAlikeExpansion, IsAlikeTaken, IsCond, IsConfig, IsFirstIn, IsFunctionLike, IsHeldExpansion, IsNever, IsPushed, KeepsLeft, Others, Span, TakesName, Turn, at, is_looked_up, macros_at, others_at, provenance_of, seen_at, seen_hidden, stores, text_of}
-use Rattle.sc_expand.proofs.WaitingTaking.{put-out-keeps, put-out-left}
 use Rattle.sc_expand.proofs.expansion.Expansion.take.Goals as goal
 
 pub take_under-requires : goal.take_under-requires

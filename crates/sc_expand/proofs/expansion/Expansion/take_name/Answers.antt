@@ -1,7 +1,6 @@
 use Rattle.std.proofs.Common.{◌≡◌, ◌∙◌, ◌∷◌, ℕ, [], List, true, ap, map, subst, sym, if◌then◌else◌, refl}
-use Rattle.sc_expand.proofs.AlikeGathering.{each-same-call}
+use Rattle.sc_expand.proofs.AlikeTaking.{each-same-call, found-alike, same-defined}
 use Rattle.sc_expand.proofs.AlikeLemmas.{alike-of, IsAlike-Keeps, IsAlikeIn-Keeps}
-use Rattle.sc_expand.proofs.AlikeTaking.{found-alike, same-defined}
 use Rattle.sc_expand.proofs.Facts.{All-nil, Extends-refl, IsConfig-Keeps, IsConfig-kept, Keeps-trans, err_from_is_err_and}
 use Rattle.sc_expand.proofs.SeenLemmas.{IsHeldExpansion-Grows, at-Grows}
 use Rattle.sc_expand.proofs.GatherEnds.{stops-earlier}
