@@ -33,10 +33,6 @@ module _ {T : Type 0} where
   pub next-items : (s : Sets) (xs : List (Cond × T)) (i : ℕ) (x : Cond × T) (c : List ℕ) → slice_get xs i ≡ Some x → items_at s (take (i + 1) xs) c ≡ items_at s (take i xs) c ++ (if s.has x.0.0 c then x.1 ∷ [] else [])
   next-items s xs i x c is = ap (λ l. items_at s l c) (next-item xs i x is) ∙ items_at-append s (take i xs) (x ∷ []) c
 
--- a condition that denotes this denotes what is the same
-pub Denotes-as : {s : Sets} {a : ℕ} {f : List ℕ → Bool} (g : List ℕ → Bool) → Denotes s a f → ((c : List ℕ) → IsConfig s.arities c → f c ≡ g c) → Denotes s a g
-Denotes-as g told same = record { own = told.own; at = λ c listed. told.at c listed ∙ same c listed }
-
 -- ---- the items of a list by their index
 
 module _ {T : Type 0} where

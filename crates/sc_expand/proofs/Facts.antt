@@ -30,4 +30,5 @@ pub use Rattle.sc_subst.proofs.SeenLaws.{held_common, held_tail, held_union, sam
 pub use Rattle.sc_subst.proofs.Store.{both_ok, if_err, if_ok}
 pub use Rattle.sc_subst.proofs.TokenLemmas.{spaced_first}
 pub use Rattle.sc_subst.proofs.Turns.{form_later, items_later, on_fault}
+pub use Rattle.sc_table.proofs.Denoting.{Denotes-as}
 pub use Rattle.sc_table.proofs.Growth.{IsHeldDefinition-Extends, IsTable-Extends, IsTable-Keeps, macros_at-Extends, macros_at-Keeps, seen_definition-Extends}

@@ -8,6 +8,8 @@ use Rattle.sc_expand.proofs.Terms.{AreAlike, Cond, Enclosing, Expansion, Grows, 
 use Rattle.sc_expand.specs.Restricted as restricted
 use Rattle.sc_expand.specs.Waiting as waiting
 
+-- ---- lists under a condition
+
 pub All-before : {X : Type 0} (P : X → Type 0) (xs ys : List X) → All P (xs ++ ys) → All P xs
 All-before P [] ys all = All-nil P
 All-before P (x ∷ xs) ys all = All-cons P x xs (All-head P x (xs ++ ys) all) (All-before P xs ys (All-tail P x (xs ++ ys) all))
@@ -95,6 +97,8 @@ module _ {T : Type 0} where
       let was = IsConfig-kept keeps listed in
       both-Keeps keeps item.0.0 live (All-head O item list own) live_own c was ∙ none c was)
       (restricted-Keeps keeps live live_own list us (All-tail O item list own) r)
+
+-- ---- tokens that are gone
 
 first-same : (list : List (Cond × Hidden)) (item : Cond × Hidden) (rest : List (Cond × Hidden)) (first : Cond × Hidden) → list ≡ item ∷ rest → slice_get list 0 ≡ Some first → first ≡ item
 first-same [] item rest first is at = absurd (cc)

@@ -278,8 +278,6 @@ module _ (st : Stores) (e : Expansion) (inside : e.below.items ≡ [] → ⊥) (
       rested-then (rested-token st (with_work e (item ∷ work)) (with_work e work) refl refl item (λ c listed has. never c listed (subst (λ (x : Cond). st.sets.has x.0 c ≡ true) is has)) refl refl refl refl (waiting.none (λ whole. absurd (inside whole)) refl))
       (rested-tokens n work (All-tail Same item (take n work) same))
 
--- ---- it grows lighter
-
 -- ---- whether not all that have what is next were refused
 
 module _ {st : Stores} {files : ℕ} (e : Expansion) (held : IsHeldExpansion st files e) where

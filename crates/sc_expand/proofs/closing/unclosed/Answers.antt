@@ -1,7 +1,7 @@
 use Rattle.std.proofs.Common.{◌<◌, ◌+◌, ◌&&◌, ◌∙◌, [], not, true, true≢false, All, ap, arith, map, sym, subst, take, take_all, if◌then◌else◌}
 use Rattle.sc_expand.proofs.AlikeLemmas.{none-told}
-use Rattle.sc_expand.proofs.ClosingLemmas.{Adds, Denotes-as, added, all-next, any-push, at-index, faults-next, is_any, left-step, left_out, met-alike, next-items}
-use Rattle.sc_expand.proofs.Facts.{All-nil, Denotes-Keeps, Denotes-self, IsConfig-Keeps, Keeps-refl, Keeps-trans, and-true}
+use Rattle.sc_expand.proofs.ClosingLemmas.{Adds, added, all-next, any-push, at-index, faults-next, is_any, left-step, left_out, met-alike, next-items}
+use Rattle.sc_expand.proofs.Facts.{All-nil, Denotes-Keeps, Denotes-self, IsConfig-Keeps, Keeps-refl, Keeps-trans, and-true, Denotes-as}
 use Rattle.sc_expand.proofs.Terms.{Cond, Fault, Hidden, IsAlike, IsCond, IsNever, UnterminatedCall, failures_at, items_at, unclosed_at}
 use Rattle.sc_expand.proofs.closing.unclosed.Goals as goal
 use Rattle.sc_expand.proofs.closing.unclosed.Goals.{then-not-is_never+in_ok-push, else-not-is_never}

@@ -1,6 +1,6 @@
 use Rattle.std.proofs.Common.{ap, sym, ◌∙◌, ◌+◌, take}
-use Rattle.sc_expand.proofs.ClosingLemmas.{Denotes-as, any-push, at-index, is_any, next-items, several-push}
-use Rattle.sc_expand.proofs.Facts.{Denotes-Keeps, Denotes-self, Keeps-trans}
+use Rattle.sc_expand.proofs.ClosingLemmas.{any-push, at-index, is_any, next-items, several-push}
+use Rattle.sc_expand.proofs.Facts.{Denotes-Keeps, Denotes-self, Keeps-trans, Denotes-as}
 use Rattle.sc_expand.proofs.Terms.{Cond, Hidden, IsCond, is_several, items_at}
 use Rattle.sc_expand.proofs.closing.with_several.Goals as goal
 

@@ -1,32 +1,29 @@
 use Rattle.std.proofs.Common.{◌<◌, ◌∙◌, ap, length, rules, subst}
+use Rattle.sc_expand.proofs.Ending.{bared}
 use Rattle.sc_expand.proofs.Facts.{All-map, Keeps-trans, err_from_is_err_and}
 use Rattle.sc_expand.proofs.GatherEnds.{stops-at}
 use Rattle.sc_expand.proofs.GatherParts.{are-branches, is-gathered, one-at-most, parted-by, parted-held}
 use Rattle.sc_expand.proofs.GatherTaking.{head-held}
-use Rattle.sc_expand.proofs.Terms.{Cond, Hidden, IsCond, IsHeldToken, LeavesOpen, Token, UnterminatedCall, failure_at, is_whole, seen_hidden, stores}
+use Rattle.sc_expand.proofs.Terms.{IsCond, IsHeldToken, LeavesOpen, UnterminatedCall, failure_at, is_whole, seen_hidden, stores}
 use Rattle.sc_expand.proofs.expansion.Expansion.gather.Goals as goal
 
 pub first_calls-requires-clause-own : goal.first_calls-requires-clause-own
 first_calls-requires-clause-own g c =
     let s = g.C.Conditions.sets c.args.conds.now in
-    let bare : Cond × Hidden → Cond × Token = λ item. (item.0, item.1.token) in
-    All-map (λ item. IsCond s item.0.0) bare c.args.self.now.top.work c.requires.held.top.work.own
+    All-map (λ item. IsCond s item.0.0) bared c.args.self.now.top.work c.requires.held.top.work.own
 
 pub first_calls-requires-clause-held : goal.first_calls-requires-clause-held
 first_calls-requires-clause-held g c =
-    let bare : Cond × Hidden → Cond × Token = λ item. (item.0, item.1.token) in
-    All-map (λ item. item.1.spelling.0 < length c.args.names.now) bare c.args.self.now.top.work (λ k d h. (c.requires.held.top.work.held k d h).held.token.spelling)
+    All-map (λ item. item.1.spelling.0 < length c.args.names.now) bared c.args.self.now.top.work (λ k d h. (c.requires.held.top.work.held k d h).held.token.spelling)
 
 pub closed_calls-requires-clause-own : goal.closed_calls-requires-clause-own
 closed_calls-requires-clause-own g c =
     let s = g.C.Conditions.sets c.first_calls.new.conds in
-    let bare : Cond × Hidden → Cond × Token = λ item. (item.0, item.1.token) in
-    All-map (λ item. IsCond s item.0.0) bare c.args.self.now.top.work (λ k d h. c.first_calls.ensures.keeps.own _ (c.requires.held.top.work.own k d h))
+    All-map (λ item. IsCond s item.0.0) bared c.args.self.now.top.work (λ k d h. c.first_calls.ensures.keeps.own _ (c.requires.held.top.work.own k d h))
 
 pub closed_calls-requires-clause-held : goal.closed_calls-requires-clause-held
 closed_calls-requires-clause-held g c =
-    let bare : Cond × Hidden → Cond × Token = λ item. (item.0, item.1.token) in
-    All-map (λ item. item.1.spelling.0 < length c.args.names.now) bare c.args.self.now.top.work (λ k d h. (c.requires.held.top.work.held k d h).held.token.spelling)
+    All-map (λ item. item.1.spelling.0 < length c.args.names.now) bared c.args.self.now.top.work (λ k d h. (c.requires.held.top.work.held k d h).held.token.spelling)
 
 pub returns-in_err-branches-clause-stops : goal.returns-in_err-branches-clause-stops
 returns-in_err-branches-clause-stops g c =
