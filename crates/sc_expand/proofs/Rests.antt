@@ -8,7 +8,7 @@ use Rattle.sc_expand.proofs.KeptLemmas.{gone-first, gone-nothing, gone-then, nev
 use Rattle.sc_expand.proofs.MachineCalls.{calls_at-append, leave-other}
 use Rattle.sc_expand.proofs.MachineLemmas.{Stands-Grows, state_in-Grows}
 use Rattle.sc_expand.proofs.SeenLemmas.{AreHeld-tail, Grows-refl, Grows-trans, IsHeldExpansion-Grows, at-Grows}
-use Rattle.sc_expand.proofs.Terms.{AreAlike, AreAlikeRefusals, AreHeld, At, Call, Cond, Denotes, Enclosing, EndsBy, Expansion, Frame, Grows, Hidden, IsAlike, IsAlikeCall, IsAlikeEnclosing, IsAlikeFrame, IsCond, IsConfig, IsDropped, IsHeldCall, IsHeldEnclosing, IsHeldExpansion, IsHeldFrame, IsHeldRefusals, IsNever, IsReady, IsRested, Keeps, KeepsFirst, Macros, Moves, Place, Progress, Provenance, Sets, Stands, Stores, Waits, at, behind_at, bottom, bottom_by, calls_at, ends, ends_at, gone, items_at, last_of, next_by, next_of, others_at, put_by, rests, seen_at, seen_hidden, state_in, steps, view_at, waiting_at, with_end}
+use Rattle.sc_expand.proofs.Terms.{AreAlike, AreAlikeRefusals, AreHeld, At, Call, Cond, Denotes, Enclosing, EndsBy, Expansion, Frame, Grows, Hidden, IsAlike, IsAlikeCall, IsAlikeEnclosing, IsAlikeFrame, IsCond, IsConfig, IsDropped, IsHeldCall, IsHeldEnclosing, IsHeldExpansion, IsHeldFrame, IsHeldRefusals, IsNever, IsReady, IsRested, IsUncalled, Keeps, KeepsFirst, KeepsGone, Macros, Moves, Place, Progress, Provenance, Sets, Stands, Stores, Waits, at, behind_at, bottom, bottom_by, calls_at, ends, ends_at, gone, items_at, last_of, next_by, next_of, others_at, put_by, rests, seen_at, seen_hidden, state_in, steps, view_at, waiting_at, with_end}
 use Rattle.sc_expand.specs.Running as running
 use Rattle.sc_expand.specs.Waiting as waiting
 
@@ -118,91 +118,85 @@ module _ (st : Stores) (e after : Expansion) (refusals : after.refusals ≡ e.re
   behind-top c [] t u same = same
   behind-top c (b ∷ bs) t u same = refl
 
+  -- the frame on top has less, and all else is as it was
+  rested-top : after.below ≡ e.below → after.top.out ≡ e.top.out
+      → ((files : ℕ) → IsHeldExpansion st files e → AreHeld st files after.rest × (AreHeld st files after.top.work × All (IsHeldCall st files) after.top.calls.items))
+      → ((c : List ℕ) → IsConfig st.sets.arities c → st.sets.has e.refusals.live.0 c ≡ true
+      → (seen_at st after.top.work c ≡ seen_at st e.top.work c) × (calls_at st after.top.calls.items c ≡ calls_at st e.top.calls.items c))
+      → KeepsGone st.sets e after → (IsUncalled e → IsUncalled after)
+      → ((c d : List ℕ) (n : ℕ) → AreAlike st.sets c d (take (length e.top.work - n) e.top.work) → AreAlike st.sets c d (take (length after.top.work - n) after.top.work))
+      → ((c d : List ℕ) → All (IsAlikeCall st.sets c d) e.top.calls.items → All (IsAlikeCall st.sets c d) after.top.calls.items)
+      → ((c : List ℕ) → IsConfig st.sets.arities c → st.sets.has e.refusals.live.0 c ≡ true → behind_at st.sets after.top.work c ≡ behind_at st.sets e.top.work c) → IsRested st st e after
+  rested-top below out held same keeps uncalled works calls behind = record {
+    grows = Grows-refl st;
+    refusals = refusals;
+    sets = sets;
+    out = ap (λ b. put_by b.items after.top) below ∙ put-same e.below.items after.top e.top out;
+    held = λ files was.
+        let now = held files was in
+        record {
+          refusals = subst (IsHeldRefusals st.sets files) (sym refusals) was.refusals;
+          rest = now.0;
+          top = record { work = now.1.0; out = subst (AreHeld st files) (sym out) was.top.out; calls = now.1.1 };
+          below = subst (λ b. All (IsHeldEnclosing st files) b.items) (sym below) was.below;
+        };
+    progress = λ files provenance macros c held listed. by_view c (λ live. same_view c below (
+        let lists = same c listed live in
+        let first = ap (λ l. seen_at st l c) out in
+        λ i. record { out = first i; work = lists.0 i; calls = lists.1 i }));
+    keeps = λ files held. keeps;
+    uncalled = uncalled;
+    alike = λ files c d others held p q alike.
+        let here = others_at others (length e.below.items) in
+        record {
+          refusals = subst (AreAlikeRefusals st.sets c d others.faults) (sym refusals) alike.refusals;
+          top = subst (λ b. IsAlikeFrame st.sets c d (others_at others (length b.items)) after.top) (sym below)
+              (record { work = works c d here.behind alike.top.work; out = subst (λ l. AreAlike st.sets c d (drop here.out l)) (sym out) alike.top.out; calls = calls c d alike.top.calls });
+          below = subst (λ b. (n : ℕ) (o : Enclosing) → slice_get b.items n ≡ Some o → IsAlikeEnclosing st.sets c d (others_at others n) o) (sym below) alike.below;
+        };
+    rest = λ files c held p live. ap (λ b. behind_at st.sets (bottom_by b.items after.top).work c) below ∙ behind-top c e.below.items e.top after.top (behind c p live);
+  }
+
   -- the first token, also where calls wait
   pub rested-token : (item : Cond × Hidden) → ((c : List ℕ) → IsConfig st.sets.arities c → st.sets.has item.0.0 c ≡ true → st.sets.has e.refusals.live.0 c ≡ true → ⊥)
       → e.top.work ≡ item ∷ after.top.work → after.top.calls.items ≡ e.top.calls.items → after.top.out ≡ e.top.out → after.below ≡ e.below
       → KeepsFirst st.sets st.sets e.refusals.waiting.0 e.below.items e.top.work e.rest after.rest → IsRested st st e after
-  rested-token item never work calls out below kept_first = record {
-    grows = Grows-refl st;
-    refusals = refusals;
-    sets = sets;
-    out = ap (λ b. put_by b.items after.top) below ∙ put-same e.below.items after.top e.top out;
-    held = λ files held. record {
-      refusals = subst (IsHeldRefusals st.sets files) (sym refusals) held.refusals;
-      rest = kept-held st (Keeps-refl st.sets) held.top.work.own files held.top.work.held kept_first held.rest;
-      top = record {
-        work = AreHeld-tail item after.top.work (subst (AreHeld st files) work held.top.work);
-        out = subst (AreHeld st files) (sym out) held.top.out;
-        calls = subst (All (IsHeldCall st files)) (sym calls) held.top.calls;
-      };
-      below = subst (λ b. All (IsHeldEnclosing st files) b.items) (sym below) held.below;
-    };
-    progress = λ files provenance macros c held listed. by_view c (λ live. same_view c below (
-        let fewer : seen_at st after.top.work c ≡ seen_at st e.top.work c = sym (
-        ap (λ l. seen_at st l c) work
-        ∙ ap (map (seen_hidden st.names st.hides)) (cond-false (st.sets.has item.0.0 c) (item.1 ∷ items_at st.sets after.top.work c) (items_at st.sets after.top.work c) (false_from_ne_true (st.sets.has item.0.0 c) (λ has. never c listed has live)))) in
-        let first = ap (λ l. seen_at st l c) out in
-        let third = ap (λ l. calls_at st l c) calls in
-        λ i. record { out = first i; work = fewer i; calls = third i }));
-    keeps = λ files held. gone-first st.sets e after item work below kept_first;
-    uncalled = λ uncalled. record { below = ap (λ b. b.items) below ∙ uncalled.below; calls = calls ∙ uncalled.calls };
-    alike = λ files c d others held p q alike.
-        let here = others_at others (length e.below.items) in
-        let Same : Cond × Hidden → Type 0 = λ item. IsAlike st.sets c d item.0 in
-        record {
-          refusals = subst (AreAlikeRefusals st.sets c d others.faults) (sym refusals) alike.refusals;
-          top = subst (λ b. IsAlikeFrame st.sets c d (others_at others (length b.items)) after.top) (sym below) (record {
-            work = All-but-tail Same here.behind item after.top.work (subst (λ l. AreAlike st.sets c d (take (length l - here.behind) l)) work alike.top.work);
-            out = subst (λ l. AreAlike st.sets c d (drop here.out l)) (sym out) alike.top.out;
-            calls = subst (All (IsAlikeCall st.sets c d)) (sym calls) alike.top.calls;
-          });
-          below = subst (λ b. (n : ℕ) (o : Enclosing) → slice_get b.items n ≡ Some o → IsAlikeEnclosing st.sets c d (others_at others n) o) (sym below) alike.below;
-        };
-    rest = λ files c held p live.
-        ap (λ b. behind_at st.sets (bottom_by b.items after.top).work c) below
-        ∙ behind-top c e.below.items e.top after.top (behind-other st.sets c item e.top.work after.top.work work (false_from_ne_true (st.sets.has item.0.0 c) (λ has. never c p has live)));
-  }
+  rested-token item never work calls out below kept_first =
+      let lacks : (c : List ℕ) → IsConfig st.sets.arities c → st.sets.has e.refusals.live.0 c ≡ true → st.sets.has item.0.0 c ≡ false = λ c listed live. false_from_ne_true (st.sets.has item.0.0 c) (λ has. never c listed has live) in
+      rested-top below out
+      (λ files held. (
+        kept-held st (Keeps-refl st.sets) held.top.work.own files held.top.work.held kept_first held.rest,
+        (AreHeld-tail item after.top.work (subst (AreHeld st files) work held.top.work), subst (All (IsHeldCall st files)) (sym calls) held.top.calls),
+      ))
+      (λ c listed live. (
+        sym (ap (λ l. seen_at st l c) work
+            ∙ ap (map (seen_hidden st.names st.hides)) (cond-false (st.sets.has item.0.0 c) (item.1 ∷ items_at st.sets after.top.work c) (items_at st.sets after.top.work c) (lacks c listed live))),
+        ap (λ l. calls_at st l c) calls,
+      ))
+      (gone-first st.sets e after item work below kept_first)
+      (λ uncalled. record { below = ap (λ b. b.items) below ∙ uncalled.below; calls = calls ∙ uncalled.calls })
+      (λ c d n all. All-but-tail (λ (x : Cond × Hidden). IsAlike st.sets c d x.0) n item after.top.work (subst (λ l. AreAlike st.sets c d (take (length l - n) l)) work all))
+      (λ c d all. subst (All (IsAlikeCall st.sets c d)) (sym calls) all)
+      (λ c p live. behind-other st.sets c item e.top.work after.top.work work (lacks c p live))
 
   pub rested-dropped : ((cond : Cond) → next_of e ≡ Some cond → (c : List ℕ) → IsConfig st.sets.arities c → st.sets.has cond.0 c ≡ true → st.sets.has e.refusals.live.0 c ≡ true → ⊥)
       → IsDropped st.sets st.sets e after → IsRested st st e after
-  rested-dropped never (running.call k calls work out below rest) = record {
-    grows = Grows-refl st;
-    refusals = refusals;
-    sets = sets;
-    out = ap (λ b. put_by b.items after.top) below ∙ put-same e.below.items after.top e.top out;
-    held = λ files held. record {
-      refusals = subst (IsHeldRefusals st.sets files) (sym refusals) held.refusals;
-      rest = subst (AreHeld st files) (sym rest) held.rest;
-      top = record {
-        work = subst (AreHeld st files) (sym work) held.top.work;
-        out = subst (AreHeld st files) (sym out) held.top.out;
-        calls = (All-pop (IsHeldCall st files) e.top.calls.items after.top.calls.items (Some k) calls held.top.calls).0;
-      };
-      below = subst (λ b. All (IsHeldEnclosing st files) b.items) (sym below) held.below;
-    };
-    progress = λ files provenance macros c held listed. by_view c (λ live. same_view c below (
-        let fewer : calls_at st after.top.calls.items c ≡ calls_at st e.top.calls.items c = sym (
-        ap (λ ks. calls_at st ks c) calls ∙ (calls_at-append st c after.top.calls.items (k ∷ [])
-        ∙ (ap (λ ws. calls_at st after.top.calls.items c ++ ws) (cond-false (st.sets.has k.cond.0 c) (waiting_at st k c ∷ []) [] (false_from_ne_true (st.sets.has k.cond.0 c) (λ has. never k.cond (next-call e after.top.calls.items k calls) c listed has live)))
-        ∙ append-nil (calls_at st after.top.calls.items c)))) in
-        let first = ap (λ l. seen_at st l c) out in
-        let second = ap (λ l. seen_at st l c) work in
-        λ i. record { out = first i; work = second i; calls = fewer i }));
-    keeps = λ files held. gone-nothing st.sets e after (ap (λ b. (bottom_by b.items after.top).work) below ∙ bottom-same e.below.items after.top e.top work) rest;
-    uncalled = λ uncalled. absurd (never-empty after.top.calls.items k (sym calls ∙ uncalled.calls));
-    alike = λ files c d others held p q alike.
-        let here = others_at others (length e.below.items) in
-        record {
-          refusals = subst (AreAlikeRefusals st.sets c d others.faults) (sym refusals) alike.refusals;
-          top = subst (λ b. IsAlikeFrame st.sets c d (others_at others (length b.items)) after.top) (sym below) (record {
-            work = subst (λ l. AreAlike st.sets c d (take (length l - here.behind) l)) (sym work) alike.top.work;
-            out = subst (λ l. AreAlike st.sets c d (drop here.out l)) (sym out) alike.top.out;
-            calls = (All-pop (IsAlikeCall st.sets c d) e.top.calls.items after.top.calls.items (Some k) calls alike.top.calls).0;
-          });
-          below = subst (λ b. (n : ℕ) (o : Enclosing) → slice_get b.items n ≡ Some o → IsAlikeEnclosing st.sets c d (others_at others n) o) (sym below) alike.below;
-        };
-    rest = λ files c held p live. ap (λ l. behind_at st.sets l c) (ap (λ b. (bottom_by b.items after.top).work) below ∙ bottom-same e.below.items after.top e.top work);
-  }
+  rested-dropped never (running.call k calls work out below rest) = rested-top below out
+      (λ files held. (
+        subst (AreHeld st files) (sym rest) held.rest,
+        (subst (AreHeld st files) (sym work) held.top.work, (All-pop (IsHeldCall st files) e.top.calls.items after.top.calls.items (Some k) calls held.top.calls).0),
+      ))
+      (λ c listed live. (
+        ap (λ l. seen_at st l c) work,
+        sym (ap (λ ks. calls_at st ks c) calls ∙ (calls_at-append st c after.top.calls.items (k ∷ [])
+            ∙ (ap (λ ws. calls_at st after.top.calls.items c ++ ws) (cond-false (st.sets.has k.cond.0 c) (waiting_at st k c ∷ []) [] (false_from_ne_true (st.sets.has k.cond.0 c) (λ has. never k.cond (next-call e after.top.calls.items k calls) c listed has live)))
+            ∙ append-nil (calls_at st after.top.calls.items c)))),
+      ))
+      (gone-nothing st.sets e after (ap (λ b. (bottom_by b.items after.top).work) below ∙ bottom-same e.below.items after.top e.top work) rest)
+      (λ uncalled. absurd (never-empty after.top.calls.items k (sym calls ∙ uncalled.calls)))
+      (λ c d n all. subst (λ l. AreAlike st.sets c d (take (length l - n) l)) (sym work) all)
+      (λ c d all. (All-pop (IsAlikeCall st.sets c d) e.top.calls.items after.top.calls.items (Some k) calls all).0)
+      (λ c p live. ap (λ l. behind_at st.sets l c) work)
   rested-dropped never (running.token item none later work out below kept_first) =
       rested-token item (λ c listed has live. never item.0 (next-token e item after.top.work none work) c listed has live) work (later ∙ sym none) out below kept_first
   rested-dropped never (running.argument o none empty below top rest) = record {
