@@ -1,7 +1,8 @@
 -- Tokens that stand apart, as lists of them are put together and taken apart.
-use Rattle.std.proofs.Common.{◌≡◌, ℕ, suc, ◌+◌, List, [], ◌∷◌, ◌++◌, length, drop, take, get_or, map, append_assoc, ap, sym, subst, arith, All, AllPairs, Option, inl, inr}
+use Rattle.std.proofs.Common.{◌≡◌, ℕ, suc, ◌+◌, List, [], ◌∷◌, ◌++◌, drop, take, get_or, map, append_assoc, ap, sym, subst, arith, All, AllPairs, Option, inl, inr}
+use Rattle.sc_expand.proofs.UnchangedLemmas.{All-before, All-behind}
 use Rattle.sc_model.specs.Token as model
-use Rattle.sc_prep.proofs.Facts.{All-append, All-map, AllPairs-cons, append-nil, get_or-append-add, get_or-map, get_or_append_left, length-append, length-map, take-append-drop}
+use Rattle.sc_prep.proofs.Facts.{All-append, All-map, AllPairs-cons, append-nil, get_or-map, length-map, take-append-drop}
 use Rattle.sc_prep.proofs.Positions.{lexed-apart}
 use Rattle.sc_prep.proofs.Terms.{AreDifferent, AreLinesOf, Cond, EndsRead, FileLines, GathersFrom, OpenRuns, Sets, StandApart, Standard, Token, Walk, in_file, position_of, seen, tokens_in, tokens_read}
 
@@ -16,18 +17,12 @@ module _ {A : Type 0} (R : A → A → Type 0) where
   pairs-right [] ys pairs = pairs
   pairs-right (x ∷ xs) ys pairs = pairs-right xs ys (pairs-tail x (xs ++ ys) pairs)
 
-  all-left : (P : A → Type 0) (xs ys : List A) → All P (xs ++ ys) → All P xs
-  all-left P xs ys all = λ k d below. subst P (get_or_append_left xs ys d k below) (all k d (omega (arith, length-append xs ys, below)))
-
-  all-right : (P : A → Type 0) (xs ys : List A) → All P (xs ++ ys) → All P ys
-  all-right P xs ys all = λ k d below. subst P (get_or-append-add xs ys k d) (all (length xs + k) d (omega (arith, length-append xs ys, below)))
-
   pub pairs-without : (xs ys zs : List A) → AllPairs R (xs ++ (ys ++ zs)) → AllPairs R (xs ++ zs)
   pairs-without [] ys zs pairs = pairs-right ys zs pairs
   pairs-without (x ∷ xs) ys zs pairs =
       let first = pairs-head x (xs ++ (ys ++ zs)) pairs in
       AllPairs-cons R x (xs ++ zs)
-      (All-append (R x) xs zs (all-left (R x) xs (ys ++ zs) first) (all-right (R x) ys zs (all-right (R x) xs (ys ++ zs) first)))
+      (All-append (R x) xs zs (All-before (R x) xs (ys ++ zs) first) (All-behind (R x) ys zs (All-behind (R x) xs (ys ++ zs) first)))
       (pairs-without xs ys zs (pairs-tail x (xs ++ (ys ++ zs)) pairs))
 
   pub pairs-left : (xs ys : List A) → AllPairs R (xs ++ ys) → AllPairs R xs
@@ -51,7 +46,7 @@ module _ {A : Type 0} (R : A → A → Type 0) where
 
 -- ---- tokens at different positions
 
-abbrev IsApart : Token → Token → Type 0
+abbrev pub IsApart : Token → Token → Type 0
 IsApart t u = position_of t.place ≡ position_of u.place → ⊥
 
 pub apart-left : (xs ys : List Token) → StandApart (xs ++ ys) → StandApart xs

@@ -1,9 +1,11 @@
 -- The alternatives of a list are those of its branches.
-use Rattle.std.proofs.Common.{◌≡◌, ℕ, zero, suc, ◌+◌, ◌<◌, ◌≤◌, ◌⊎◌, inl, inr, Bool, true, false, List, [], ◌∷◌, ◌++◌, take, All, map, length, get_or, refl, sym, ap, subst, ◌∙◌, arith, if◌then◌else◌}
+use Rattle.std.proofs.Common.{◌≡◌, ℕ, zero, suc, ◌+◌, ◌<◌, Bool, true, false, List, [], ◌∷◌, ◌++◌, take, All, map, length, get_or, refl, sym, ap, subst, ◌∙◌, arith, if◌then◌else◌}
+use Rattle.sc_expand.proofs.AlikeLemmas.{all-back}
+use Rattle.sc_expand.proofs.GatherPlaces.{somewhere}
 use Rattle.sc_hoist.proofs.PartLemmas.{one_list}
 use Rattle.sc_hoist.specs.Branches.{AreBranches, lists_at}
-use Rattle.sc_prep.proofs.Facts.{All-map, IsConfig-kept, cases_lt, length-map, map-append, map-one, tokens_at-All, tokens_at-places}
-use Rattle.sc_prep.proofs.ListsAt.{all-unmap, map-next}
+use Rattle.sc_prep.proofs.Facts.{All-map, IsConfig-kept, length-map, map-append, map-one, tokens_at-All, tokens_at-places}
+use Rattle.sc_prep.proofs.ListsAt.{map-next}
 use Rattle.sc_prep.proofs.Terms.{Branch, Cond, IsCond, IsConfig, IsNever, Keeps, Sets, Token, items_at, places_at, places_from, tokens_at}
 use Rattle.sc_prep.specs.Alternatives.{EachToken, OwnsEach, alternative_tokens, branch_tokens, tokens_in}
 use Rattle.sc_prep.specs.declared.alternatives.Alternative.{Alternative}
@@ -25,18 +27,6 @@ all-below : (s : Sets) (list : List (Cond × Token)) (c : List ℕ) → All (λ 
 all-below s list c = λ k d h.
     let long = length-map list (λ (item : Cond × Token). item.0) in
     omega (arith, long, places_below s 0 (map (λ (item : Cond × Token). item.0) list) c k d h)
-
--- numbers that compare so at each configuration of a condition that has one compare so
-somewhere : (s : Sets) (cond : ℕ) → (IsNever s cond → ⊥) → (a b : ℕ) → ((c : List ℕ) → IsConfig s.arities c → s.has cond c ≡ true → a < b) → a < b
-somewhere s cond some a b each = by (cases_lt a b)
-  where
-    never : b ≤ a → (h : Bool) → (h ≡ true → a < b) → h ≡ false
-    never le true less = absurd (omega (arith, less refl, le))
-    never le false less = refl
-
-    by : (a < b) ⊎ (b ≤ a) → a < b
-    by (inl less) = less
-    by (inr le) = absurd (some (record { none = λ c listed. never le (s.has cond c) (each c listed) }))
 
 -- a list of tokens, as sc_hoist sees it
 abbrev bare : List (Cond × Token) → List (Cond × Token)
@@ -93,15 +83,15 @@ module _ {old mid : Sets} (list : List (Cond × Token)) (cond : ℕ) (bs : List 
     pub alternatives-own : OwnsEach mid found
     alternatives-own =
         let P : Cond × List Token → Type 0 = λ item. IsCond mid item.0.0 in
-        all-unmap P alternative_tokens found (subst (All P) (sym same) (All-map P (branch_tokens list) bs are.own))
+        all-back P alternative_tokens found (subst (All P) (sym same) (All-map P (branch_tokens list) bs are.own))
 
     pub alternatives-some : All (λ (a : Alternative). IsNever mid a.cond.0 → ⊥) found
     alternatives-some =
         let P : Cond × List Token → Type 0 = λ item. IsNever mid item.0.0 → ⊥ in
-        all-unmap P alternative_tokens found (subst (All P) (sym same) (All-map P (branch_tokens list) bs are.some))
+        all-back P alternative_tokens found (subst (All P) (sym same) (All-map P (branch_tokens list) bs are.some))
 
     pub alternatives-each : (P : Token → Type 0) → All (λ (item : Cond × Token). P item.1) list → EachToken P found
     alternatives-each P all =
         let Q : Cond × List Token → Type 0 = λ item. All P item.1 in
-        all-unmap Q alternative_tokens found
+        all-back Q alternative_tokens found
         (subst (All Q) (sym same) (All-map Q (branch_tokens list) bs (λ k d h. tokens_at-All P list (get_or bs k d).places.items all)))

@@ -1,10 +1,11 @@
 -- What closing the runs does at each configuration.
-use Rattle.std.proofs.Common.{◌≡◌, ℕ, ◌<◌, ◌&&◌, not, Bool, true, false, List, [], ◌∷◌, ◌++◌, All, map, length, take, Option, Some, None, Ok, Err, append-nil, ◌⊎◌, refl, sym, ap, subst, ◌∙◌, if◌then◌else◌, is_none}
+use Rattle.std.proofs.Common.{◌≡◌, ℕ, ◌<◌, ◌&&◌, not, Bool, true, false, true≢false, List, [], ◌∷◌, ◌++◌, All, map, length, take, Option, Some, None, Ok, Err, append-nil, ◌⊎◌, refl, sym, ap, subst, ◌∙◌, if◌then◌else◌, is_none}
 use Rattle.c11_directives.specs.Pragmas.{expanded as run_expanded, not_expanded as run_not_expanded}
 use Rattle.c11_macros.specs.Hidden.{failure_at}
 use Rattle.sc_base.specs.declared.fault.Fault as base
 use Rattle.sc_base.specs.declared.place.Place as base_place
 use Rattle.sc_base.specs.declared.token.Token as base_token
+use Rattle.sc_expand.proofs.TakingParts.{none-found}
 use Rattle.sc_expand.proofs.TextLemmas.{seen-out}
 use Rattle.sc_expand.specs.Closing.{is_several, unclosed_at}
 use Rattle.sc_expand.specs.Moved.{moved, moved_failure}
@@ -13,9 +14,9 @@ use Rattle.sc_expand.specs.Seen.{seen_failure}
 use Rattle.sc_model.specs.Token.{Place, Token}
 use Rattle.sc_model.specs.declared.cause.Cause.TheVariants.{UnterminatedCall}
 use Rattle.sc_prep.proofs.ApartLemmas.{ended-tokens, gathers-ended}
-use Rattle.sc_prep.proofs.Facts.{All-append, All-cons, All-head, All-map, All-nil, All-tail, All-weaker, IsConfig-Keeps, IsConfig-kept, IsTable-Keeps, Keeps-trans, PlainToken, faults_at-Keeps, faults_at-append, items_at-Keeps, map-append, true≢false}
+use Rattle.sc_prep.proofs.Facts.{All-append, All-cons, All-head, All-map, All-nil, All-tail, All-weaker, IsConfig-Keeps, IsConfig-kept, IsTable-Keeps, Keeps-trans, PlainToken, and-false, and-true, faults_at-Keeps, faults_at-append, items_at-Keeps, map-append, true≢false}
 use Rattle.sc_prep.proofs.LeftRuns.{left-all, left-as}
-use Rattle.sc_prep.proofs.Machine.{inert_closing}
+use Rattle.sc_prep.proofs.Machine.{inert_closing, right-none}
 use Rattle.sc_prep.proofs.Plain.{text-plain}
 use Rattle.sc_prep.proofs.PragmaLaws.{carried, carries-out}
 use Rattle.sc_prep.proofs.PragmaMoves.{awaits-kept, owns-pragmas}
@@ -36,19 +37,6 @@ empty-seen f (x ∷ xs) e = absurd (cc)
 pub some-seen : {F : Type 0} (f : base.Fault → F) (xs : List base.Fault) (y : F) (ys : List F) → map f xs ≡ y ∷ ys → is_empty xs ≡ false
 some-seen f [] y ys e = absurd (cc)
 some-seen f (x ∷ xs) y ys e = refl
-
-and_true : (b : Bool) → (b && true) ≡ b
-and_true true = refl
-and_true false = refl
-
-and_false : (b : Bool) → (b && false) ≡ false
-and_false true = refl
-and_false false = refl
-
-fault-none : {F : Type 0} (a : Bool) (f : Option F) → (a && is_none f) ≡ true → f ≡ None
-fault-none true None e = refl
-fault-none true (Some x) e = absurd (cc)
-fault-none false f e = absurd (cc)
 
 none-before : {F : Type 0} (f g : Option F) (b : Bool) → (is_none f && b) ≡ is_none g → g ≡ None → f ≡ None
 none-before None g b e no_fault = refl
@@ -113,9 +101,9 @@ pub empty-map : {A B : Type 0} (f : A → B) (xs : List A) → is_empty xs ≡ i
 empty-map f [] = refl
 empty-map f (x ∷ xs) = refl
 
-none-left : {A B : Type 0} (f : A → B) (xs : List A) → map f xs ≡ [] → xs ≡ []
-none-left f [] e = refl
-none-left f (x ∷ xs) e = absurd (cc)
+pub both-empty : {A : Type 0} (xs ys : List A) → is_empty (xs ++ ys) ≡ true → (is_empty xs ≡ true) × (is_empty ys ≡ true)
+both-empty [] ys is = (refl, is)
+both-empty (x ∷ xs) ys is = absurd (true≢false (sym is))
 
 module _ (files names : List (List ℕ)) (hides : List (List Name)) where
   abbrev see : List base_hidden.Hidden → List (Hidden Place)
@@ -314,7 +302,7 @@ module _ (files names : List (List ℕ)) {old new : Sets} (w next : Walk) (store
         here = simulates.acting ∙ acting
 
         no_fault : m.fault ≡ None
-        no_fault = fault-none m.active m.fault acting
+        no_fault = right-none m.active m.fault acting
 
         live : is_none m.fault ≡ true
         live = ap is_none no_fault
@@ -330,7 +318,7 @@ module _ (files names : List (List ℕ)) {old new : Sets} (w next : Walk) (store
               machine = closing_run m (Ok output);
               done = record { answer = Ok output; expands = λ _. becomes; is = refl };
               simulates = subst (Simulates new names files next c) (ap (λ b. record m { state = if b then put_out m.state output else m.state }) (sym acting))
-                  (simulates-next [] (m.state.output ++ output) m.fault (ap (λ b. is_none m.fault && b) all ∙ and_true (is_none m.fault)) (ap (λ b. acts m && b) all ∙ and_true (acts m))
+                  (simulates-next [] (m.state.output ++ output) m.fault (ap (λ b. is_none m.fault && b) all ∙ and-true (is_none m.fault)) (ap (λ b. acts m && b) all ∙ and-true (acts m))
                   (ap (λ fs. option_to_list m.fault ++ fs) nothing ∙ append-nil (option_to_list m.fault))
                   (λ _. record {
                     run = left-all (ap shown run-left);
@@ -347,7 +335,7 @@ module _ (files names : List (List ℕ)) {old new : Sets} (w next : Walk) (store
               machine = closing_run m (Err fault);
               done = record { answer = Err fault; expands = λ _. becomes; is = refl };
               simulates = subst (Simulates new names files next c) (ap (λ b. record m { fault = if b then Some fault else m.fault }) (sym acting))
-                  (simulates-next m.state.run m.state.output (Some fault) (ap (λ b. is_none m.fault && b) some ∙ and_false (is_none m.fault)) (ap (λ b. acts m && b) some ∙ (and_false (acts m) ∙ sym (and_false m.active)))
+                  (simulates-next m.state.run m.state.output (Some fault) (ap (λ b. is_none m.fault && b) some ∙ and-false (is_none m.fault)) (ap (λ b. acts m && b) some ∙ (and-false (acts m) ∙ sym (and-false m.active)))
                   (ap (λ fs. option_to_list m.fault ++ fs) one ∙ ap (λ (o : Option Fault). option_to_list o ++ fault ∷ []) no_fault) (λ n. absurd (cc)));
             }
 
@@ -386,7 +374,7 @@ module _ (files names : List (List ℕ)) {old new : Sets} (w next : Walk) (store
                   (told-err unclosed.0 (told-first ∙ ((λ i. unclosed-told true true here many i ++ (ended-told true here ∙ clean) i) ∙ (append-nil (map (moved_failure (seen_place files)) (map unclosed_at (take 1 xs))) ∙ unclosed.2))))
                   (run_not_expanded (fault_of unclosed.0) (subst (λ r. TextExpands m.state.macros m.state.run (text_of_answer (after_these out r))) unclosed.1 expands))
           closes-as (fails failure one nothing expands) =
-              let few : is_several xs ≡ false = ap is_several (none-left (seen_hidden names w.runs.sets) xs (none-left (moved (seen_place files)) (map (seen_hidden names w.runs.sets) xs) nothing)) in
+              let few : is_several xs ≡ false = ap is_several (none-found (seen_hidden names w.runs.sets) xs (none-found (moved (seen_place files)) (map (seen_hidden names w.runs.sets) xs) nothing)) in
               closes-err (fault_of failure) (told-err failure (told-first ∙ (λ i. unclosed-told true false here few i ++ (ended-told true here ∙ one) i))) (run_not_expanded (fault_of failure) expands)
 
         text-here : TextEnds m.state gathered (shown (items_at old w.prepared.list c)) (simulates.text no_fault).awaited (held_at old files w.runs.held.items c)
@@ -405,7 +393,7 @@ module _ (files names : List (List ℕ)) {old new : Sets} (w next : Walk) (store
             machine = closing_run m (Ok []);
             done = record { answer = Ok []; expands = λ acting. absurd (true≢false (sym acting ∙ idle)); is = refl };
             simulates = subst (Simulates new names files next c) (sym (inert_closing m (Ok []) idle))
-                (simulates-next m.state.run m.state.output m.fault (ap (λ b. is_none m.fault && b) all ∙ and_true (is_none m.fault)) (ap (λ b. acts m && b) all ∙ and_true (acts m))
+                (simulates-next m.state.run m.state.output m.fault (ap (λ b. is_none m.fault && b) all ∙ and-true (is_none m.fault)) (ap (λ b. acts m && b) all ∙ and-true (acts m))
                 (ap (λ fs. option_to_list m.fault ++ fs) nothing ∙ append-nil (option_to_list m.fault))
                 (λ clean.
                 let was = simulates.text clean in

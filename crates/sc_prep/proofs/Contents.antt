@@ -1,36 +1,27 @@
 -- What was read of files stays while the tables of names and of texts grow.
-use Rattle.std.proofs.Common.{◌≡◌, ℕ, zero, suc, ◌<◌, ◌⊎◌, inl, inr, ◌||◌, get_or, Bool, true, false, List, [], ◌∷◌, All, length, map, slice_get, Option, Some, None, Err, refl, sym, ap, ◌∙◌, subst, arith, ◌-◌, cond, drop, slice_set}
+use Rattle.std.proofs.Common.{◌≡◌, ℕ, zero, suc, ◌<◌, ◌⊎◌, inl, inr, ◌||◌, get_or, false, List, [], ◌∷◌, All, length, map, slice_get, Option, Some, None, Err, refl, sym, ap, ◌∙◌, subst, arith, ◌-◌, cond, drop, slice_set}
 use Rattle.sc_base.specs.declared.place.Place.{Place}
+use Rattle.sc_if.proofs.Replacements.{held-grown, text_at-grown}
 use Rattle.sc_lines.specs.declared.line.Line.{Line}
 use Rattle.sc_prep.proofs.Facts.{All-drop, All-head, All-tail, All-take, All-weaker, Extends-keeps, Extends-refl, Extends-within, cases_order, map-map, none-some, same_Some, same_bytes-refl, same_bytes-true, slice_get_within}
-use Rattle.sc_prep.proofs.Terms.{Content, Contents, Enters, Extends, FileId, Files, HasBranches, IsHeld, IsOneToOne, IsPlaced, IsPlainOrNewline, IsTree, Standard, Token, directive_at, directive_of, directives_of, fault_at, file_with, has_no_newline, is_newline, lines_of, name_of, option_and_then, position_of, same_bytes, seen, seen_place, text_at, token_lines, tokens_of, unwrap_or, update}
+use Rattle.sc_prep.proofs.Terms.{Content, Contents, Enters, Extends, FileId, Files, HasBranches, IsHeld, IsOneToOne, IsPlaced, IsPlainOrNewline, IsTree, Standard, Token, directive_at, directive_of, directives_of, fault_at, file_with, has_no_newline, is_newline, lines_of, option_and_then, position_of, same_bytes, seen, seen_place, text_at, token_lines, tokens_of, unwrap_or, update}
 use Rattle.sc_prep.specs.Contents.{Agrees, AreContents, IsContent, IsHeldContent, IsKept, IsReading, KeepsContents, ReadsSame, absent, content_at, known, nested, refused}
 use Rattle.sc_prep.specs.declared.content.Content.TheVariants as content
 use Rattle.sc_prep.specs.declared.content.Reading.{Reading}
+use Rattle.std.proofs.lemmas.Bool.{false_from_ne_true}
 
 -- functions that agree at each item
 map-each : {A B : Type 0} (f g : A → B) → ((x : A) → f x ≡ g x) → (xs : List A) → map f xs ≡ map g xs
-map-each f g same [] = refl
-map-each f g same (x ∷ xs) = ap (λ y. y ∷ map f xs) (same x) ∙ ap (λ ys. g x ∷ ys) (map-each f g same xs)
+map-each f g same xs = λ i. map (λ x. same x i) xs
 
 -- ---- tokens that the tables hold look the same when they have more
 
 module _ {names more : List (List ℕ)} (grows : Extends names more) where
-  text-later : (id : ℕ) → id < length names → text_at more id ≡ text_at names id
-  text-later id there = ap (λ o. unwrap_or o []) (grows.kept id there)
-
-  pub IsHeld-later : (t : Token) → IsHeld names t → IsHeld more t
-  IsHeld-later t held = record {
-    spelling = Extends-within t.spelling.0 held.spelling grows;
-    name = Extends-within t.name.0 held.name grows;
-    stands_for = text-later t.name.0 held.name ∙ (held.stands_for ∙ ap name_of (sym (text-later t.spelling.0 held.spelling)));
-  }
-
   spelled-later : (files : List (List ℕ)) (ts : List Token) → All (IsHeld names) ts → map (seen more files) ts ≡ map (seen names files) ts
   spelled-later files [] held = refl
   spelled-later files (t ∷ ts) held =
       let first : seen more files t ≡ seen names files t =
-      ap (λ s. record { kind = t.kind; spelling = s; space = t.space; place = seen_place files t.place }) (text-later t.spelling.0 (All-head (IsHeld names) t ts held).spelling) in
+      ap (λ s. record { kind = t.kind; spelling = s; space = t.space; place = seen_place files t.place }) (text_at-grown grows t.spelling.0 (All-head (IsHeld names) t ts held).spelling) in
       ap (λ s. s ∷ map (seen more files) ts) first ∙ ap (λ ss. seen names files t ∷ ss) (spelled-later files ts (All-tail (IsHeld names) t ts held))
 
   directives-later : (standard : Standard) (tokens : List Token) (lines : List Line) → All (IsHeld names) tokens → map (tokens_of tokens) lines ≡ token_lines tokens
@@ -44,7 +35,7 @@ module _ {names more : List (List ℕ)} (grows : Extends names more) where
 
 module _ {names more files more_files : List (List ℕ)} (grows : Extends names more) (files_grow : Extends files more_files) where
   pub IsPlaced-later : (t : Token) → IsPlaced names (length files) t → IsPlaced more (length more_files) t
-  IsPlaced-later t placed = record { held = IsHeld-later grows t placed.held; file = Extends-within t.place.file.0 placed.file files_grow }
+  IsPlaced-later t placed = record { held = held-grown grows t placed.held; file = Extends-within t.place.file.0 placed.file files_grow }
 
   pub place-later : (p : Place) → p.file.0 < length files → seen_place more_files p ≡ seen_place files p
   place-later p there = ap (λ o. record { file = unwrap_or o []; position = position_of p }) (files_grow.kept p.file.0 there)
@@ -103,7 +94,7 @@ module _ {names more files more_files : List (List ℕ)} (grows : Extends names 
       (tokens-later grows files_grow found.tokens.items lines.placed, place-later grows files_grow found.end (subst (λ (f : FileId). f.0 < length files) (sym lines.end_inside) there))
 
   plain-later : (t : Token) → IsHeld names t → IsPlainOrNewline names t → IsPlainOrNewline more t
-  plain-later t held plain = ap (λ text. is_newline t.kind || has_no_newline text) (text-later grows t.spelling.0 held.spelling) ∙ plain
+  plain-later t held plain = ap (λ text. is_newline t.kind || has_no_newline text) (text_at-grown grows t.spelling.0 held.spelling) ∙ plain
 
   held-later : (standard : Standard) (file : FileId) (x : Content) → IsHeldContent standard names (length files) file x → IsHeldContent standard more (length more_files) file x
   held-later standard file (content.Refused cause place) held = held
@@ -153,12 +144,8 @@ module _ {names more files more_files : List (List ℕ)} (grows : Extends names 
 
 -- ---- one reading more
 
-is_false : (b : Bool) → (b ≡ true → ⊥) → b ≡ false
-is_false true never = absurd (never refl)
-is_false false never = refl
-
 different : (name other : List ℕ) → (name ≡ other → ⊥) → same_bytes name other ≡ false
-different name other apart = is_false (same_bytes name other) (λ same. apart (same_bytes-true name other same))
+different name other apart = false_from_ne_true (same_bytes name other) (λ same. apart (same_bytes-true name other same))
 
 -- the test of ids, by cases
 same_or : (i j : ℕ) → (i ≡ j) ⊎ (i ≡ j → ⊥)

@@ -7,11 +7,12 @@ use Rattle.c11_expressions.specs.Parts.{Part}
 use Rattle.sc_base.specs.declared.token.Token as base
 use Rattle.sc_model.specs.Token.{Place, Token}
 use Rattle.sc_prep.proofs.ApartLemmas.{apart-drop, different}
-use Rattle.sc_prep.proofs.ExpressionMoves.{asked-at, right-none}
+use Rattle.sc_prep.proofs.ExpressionMoves.{asked-at}
 use Rattle.sc_prep.proofs.Facts.{IsConfig-Keeps, IsConfig-kept, and_from, and_parts, directive-files, true≢false, under}
 use Rattle.sc_prep.proofs.FileStops.{comes-closing, comes-said}
 use Rattle.sc_prep.proofs.LineFootprints.{headers-footprints, lists-footprints}
 use Rattle.sc_prep.proofs.LineSteps.{line-grown}
+use Rattle.sc_prep.proofs.Machine.{right-none}
 use Rattle.sc_prep.proofs.NameFootprints.{text-as}
 use Rattle.sc_prep.proofs.PartFootprints.{part-footprints, part-has}
 use Rattle.sc_prep.proofs.SaidMoves.{text-at}

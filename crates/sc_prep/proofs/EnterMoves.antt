@@ -2,8 +2,8 @@
 use Rattle.std.proofs.Common.{◌≡◌, ℕ, ◌&&◌, ◌++◌, ◌∷◌, not, Bool, true, false, List, [], All, map, reverse, append-nil, if◌then◌else◌, Option, Some, None, Ok, Err, refl, sym, ap, ◌∙◌, subst, is_none}
 use Rattle.sc_base.specs.declared.fault.Fault as base
 use Rattle.sc_model.specs.Token.{Token}
-use Rattle.sc_prep.proofs.Facts.{IsConfig-Keeps, faults_at-append, map-append}
-use Rattle.sc_prep.proofs.Machine.{after}
+use Rattle.sc_prep.proofs.Facts.{IsConfig-Keeps, and-false, and-true, faults_at-append, map-append, map-one}
+use Rattle.sc_prep.proofs.Machine.{after, right-none}
 use Rattle.sc_prep.proofs.SettledText.{text-empty}
 use Rattle.sc_prep.proofs.Terms.{Around, Begins, Cond, Context, Fault, IsBetweenRuns, IsCond, IsConfig, IsTable, Keeps, Leaves, Machine, Owns, OwnsSection, RefusesEach, RunAt, Sets, Simulates, State, Walk, acts, arriving, back, faults_at, has_none, is_empty, is_once_file, items_at, option_to_list, section_at, seen, seen_fault, start}
 use Rattle.sc_prep.proofs.Texts.{run-empty}
@@ -11,12 +11,7 @@ use Rattle.sc_prep.proofs.WalkMoves.{simulates-kept, sections-kept}
 use Rattle.sc_prep.specs.Includes.{EntersAt, elsewhere, inert, left_out}
 
 pub acts-unfaulty : (m : Machine) → acts m ≡ true → m.fault ≡ None
-acts-unfaulty m e = by m.active m.fault e
-  where
-    by : (a : Bool) (f : Option Fault) → (a && is_none f) ≡ true → f ≡ None
-    by a None e = refl
-    by true (Some f) e = cc
-    by false (Some f) e = cc
+acts-unfaulty m e = right-none m.active m.fault e
 
 -- the machine of a configuration that does not enter the file, of which nothing was gathered: this
 -- was put out
@@ -138,25 +133,13 @@ module _ {old new : Sets} (keeps : Keeps old new) (names files : List (List ℕ)
       ∙ (map-append (seen_fault files) (faults_at new w.prepared.faults.items config) (if new.has fault.cond.0 config then fault ∷ [] else [])
       ∙ (ap (λ fs. fs ++ map (seen_fault files) (if new.has fault.cond.0 config then fault ∷ [] else [])) refused-walk.prepared.fault
       ∙ (ap (λ b. option_to_list m.fault ++ map (seen_fault files) (if b then fault ∷ [] else [])) (keeps.at fault.cond.0 config own listed)
-      ∙ ap (λ fs. option_to_list m.fault ++ fs) (one (old.has fault.cond.0 config))))))
-    where
-      one : (b : Bool) → map (seen_fault files) (if b then fault ∷ [] else []) ≡ (if b then seen_fault files fault ∷ [] else [])
-      one true = refl
-      one false = refl
+      ∙ ap (λ fs. option_to_list m.fault ++ fs) (map-one (seen_fault files) (old.has fault.cond.0 config) fault)))))
 
   live-now : new.has next.prepared.live.0 config ≡ (is_none m.fault && is_empty (if old.has fault.cond.0 config then fault ∷ [] else []))
   live-now = refuses.live.at config now-listed ∙ ap (λ b. b && has_none old (fault ∷ []) config) at.prepared.live
 
   acting-then : new.has next.acting.0 config ≡ (acts m && is_empty (if old.has fault.cond.0 config then fault ∷ [] else []))
   acting-then = refuses.acting.at config now-listed ∙ ap (λ b. b && has_none old (fault ∷ []) config) at.acting
-
-  and-true : (b : Bool) → (b && true) ≡ b
-  and-true true = refl
-  and-true false = refl
-
-  and-false : (b : Bool) → (b && false) ≡ false
-  and-false true = refl
-  and-false false = refl
 
   pub refused-not : IsCond old fault.cond.0 → old.has fault.cond.0 config ≡ false → Simulates new names files next config m
   refused-not own out = subst (λ (v : Walk). Simulates new names files v config m) (sym refuses.same) (record {

@@ -1,5 +1,5 @@
 -- The stages of an expression under all configurations at once, seen at each.
-use Rattle.std.proofs.Common.{◌≡◌, ℕ, ◌&&◌, Bool, true, false, List, [], All, map, length, Option, Some, None, Result, Ok, Err, refl, sym, ap, subst, ◌∙◌, is_none}
+use Rattle.std.proofs.Common.{◌≡◌, ℕ, ◌&&◌, Bool, true, false, List, [], All, map, length, Some, None, Result, Ok, Err, refl, sym, ap, subst, ◌∙◌, is_none}
 use Rattle.c11_expressions.specs.Lines.{Comes, failure, without_defined}
 use Rattle.sc_base.specs.declared.place.Place as base_place
 use Rattle.sc_base.specs.declared.token.Token as base_token
@@ -8,18 +8,14 @@ use Rattle.sc_if.specs.Replaced as replaced
 use Rattle.sc_if.specs.declared.deciding.Decided.{Decided}
 use Rattle.sc_model.specs.Token.{Token}
 use Rattle.sc_prep.proofs.ExpressionSteps.{at_place, decided-alternative, decided-by, decided-opening, faults-seen, moved-seen, without-moved}
-use Rattle.sc_prep.proofs.Facts.{IsConfig-Keeps, IsTable-Keeps, items_at-Keeps, macros_at-Keeps, true≢false}
-use Rattle.sc_prep.proofs.StageRefusals.{FaultsAt}
+use Rattle.sc_prep.proofs.Facts.{IsConfig-Keeps, IsTable-Keeps, items_at-Keeps, macros_at-Keeps}
+use Rattle.sc_prep.proofs.Machine.{right-none}
+use Rattle.sc_prep.proofs.StageRefusals.{FaultsAt, no-fault, one-fault}
 use Rattle.sc_prep.proofs.Terms.{Alternative, C11, Cause, Cond, Context, DecidesAt, Denotes, EvaluatesAt, Expanded, ExpandsAt, Expression, Failure, Fault, Hidden, IsCond, IsConfig, IsEmpty, IsExpanded, IsHeldAnswer, IsTable, Keeps, Line, Machine, Opening, Owns, ReplacesAt, Sets, Simulates, SimulatesOneOf, SimulatesStep, Standard, Stands, Test, TextExpands, Walk, acts, behind_name, conditional_of, deciding_idle, evaluating_done, evaluating_fails, evaluating_idle, expanding_done, expanding_fails, expanding_idle, fault_of, faults_at, hash_of, items_at, macros_at, next_branch, opened, replacing_done, replacing_fails, replacing_idle, result_map, seen, seen_fault, seen_place, test_of, unhidden}
 use Rattle.sc_prep.proofs.WalkMoves.{owns-kept, simulates-kept}
 use Rattle.sc_prep.specs.Machine as machine
 
-pub right-none : {F : Type 0} (a : Bool) (f : Option F) → (a && is_none f) ≡ true → f ≡ None
-right-none true None e = refl
-right-none true (Some x) e = absurd (cc)
-right-none false f e = absurd (cc)
-
-and-twice : (a b : Bool) → ((a && b) && b) ≡ (a && b)
+pub and-twice : (a b : Bool) → ((a && b) && b) ≡ (a && b)
 and-twice true true = refl
 and-twice true false = refl
 and-twice false b = refl
@@ -61,18 +57,10 @@ module _ {old s : Sets} (keeps : Keeps old s) (w : Walk) (among live : Cond) (li
           told : (b : Bool) → (old.has among.0 c && is_none m.fault) ≡ b → b ≡ true → (r : Result (List Token) Fault)
               → TextExpands (macros_at s names w.table c) (map (seen names files) (items_at s list c)) r → Stands r (map (seen more files) (items_at mid e.list c)) (map (seen_fault files) (faults_at mid e.faults.items c))
               → FaultsAt mid files e.faults.items c m (ExpandsAt (map (seen names files) (items_at old list c)) b m (map (seen more files) (items_at new e.list c)))
-          told b same asked (Ok tokens) x stands = record {
-            fault = None;
-            told = stands.1;
-            fresh = λ some. absurd (true≢false (sym some));
-            done = expanding_done asked (subst (λ ts. TextExpands m.state.macros (map (seen names files) (items_at old list c)) (Ok ts)) (sym (kept_items ∙ stands.0)) (turned (right-none (old.has among.0 c) m.fault (same ∙ asked)) x));
-          }
-          told b same asked (Err fault) x stands = record {
-            fault = Some fault;
-            told = stands;
-            fresh = λ _. right-none (old.has among.0 c) m.fault (same ∙ asked);
-            done = expanding_fails fault asked (turned (right-none (old.has among.0 c) m.fault (same ∙ asked)) x);
-          }
+          told b same asked (Ok tokens) x stands = no-fault stands.1
+              (expanding_done asked (subst (λ ts. TextExpands m.state.macros (map (seen names files) (items_at old list c)) (Ok ts)) (sym (kept_items ∙ stands.0)) (turned (right-none (old.has among.0 c) m.fault (same ∙ asked)) x)))
+          told b same asked (Err fault) x stands = one-fault fault stands (right-none (old.has among.0 c) m.fault (same ∙ asked))
+              (expanding_fails fault asked (turned (right-none (old.has among.0 c) m.fault (same ∙ asked)) x))
 
           by : (b : Bool) → (old.has among.0 c && is_none m.fault) ≡ b
               → FaultsAt mid files e.faults.items c m (ExpandsAt (map (seen names files) (items_at old list c)) (old.has among.0 c && is_none m.fault) m (map (seen more files) (items_at new e.list c)))
@@ -81,12 +69,8 @@ module _ {old s : Sets} (keeps : Keeps old s) (w : Walk) (among live : Cond) (li
               told (old.has among.0 c && is_none m.fault) refl same x.answer x.expands x.stands
           by false same =
               let nothing = others c now (asked-at c m listed simulates ∙ same) in
-              record {
-                fault = None;
-                told = ap (map (seen_fault files)) nothing.faults;
-                fresh = λ some. absurd (true≢false (sym some));
-                done = expanding_idle same (kept_items ∙ ap (map (seen more files)) nothing.list);
-              }
+              no-fault (ap (map (seen_fault files)) nothing.faults)
+              (expanding_idle same (kept_items ∙ ap (map (seen more files)) nothing.list))
 
     -- ---- each `defined` is replaced
 
@@ -115,19 +99,11 @@ module _ {old s : Sets} (keeps : Keeps old s) (w : Walk) (among live : Cond) (li
           told : (old.has among.0 c && is_none m.fault) ≡ true → (r : Result (List (Hidden base_place.Place)) Cause) → without_defined (macros_at s names w.table c) (map (replaced.unhidden names) text) ≡ r
               → replaced.Stands hash r (map (replaced.unhidden more) (items_at mid e.list c)) (map replaced.seen_failure (faults_at mid e.faults.items c))
               → FaultsAt mid files e.faults.items c m (ReplacesAt (map (seen names files) text) (seen_place files hash) (old.has among.0 c && is_none m.fault) m (map (seen more files) (items_at new e.list c)))
-          told asked (Ok tokens) is stands = record {
-            fault = None;
-            told = faults-seen files (faults_at mid e.faults.items c) ∙ ap (map _) stands.1;
-            fresh = λ some. absurd (true≢false (sym some));
-            done = replacing_done asked (turned (right-none (old.has among.0 c) m.fault asked) (Ok tokens) is
-                ∙ ap Ok (ap (map (at_place (seen_place files))) (sym stands.0) ∙ (moved-seen more files (items_at mid e.list c) ∙ ap (map unhidden) (sym kept_items))));
-          }
-          told asked (Err cause) is stands = record {
-            fault = Some (fault_of (failure cause (seen_place files hash)));
-            told = faults-seen files (faults_at mid e.faults.items c) ∙ ap (map _) stands.1;
-            fresh = λ _. right-none (old.has among.0 c) m.fault asked;
-            done = replacing_fails cause asked (turned (right-none (old.has among.0 c) m.fault asked) (Err cause) is);
-          }
+          told asked (Ok tokens) is stands = no-fault (faults-seen files (faults_at mid e.faults.items c) ∙ ap (map _) stands.1)
+              (replacing_done asked (turned (right-none (old.has among.0 c) m.fault asked) (Ok tokens) is
+              ∙ ap Ok (ap (map (at_place (seen_place files))) (sym stands.0) ∙ (moved-seen more files (items_at mid e.list c) ∙ ap (map unhidden) (sym kept_items)))))
+          told asked (Err cause) is stands = one-fault (fault_of (failure cause (seen_place files hash))) (faults-seen files (faults_at mid e.faults.items c) ∙ ap (map _) stands.1) (right-none (old.has among.0 c) m.fault asked)
+              (replacing_fails cause asked (turned (right-none (old.has among.0 c) m.fault asked) (Err cause) is))
 
           by : (b : Bool) → (old.has among.0 c && is_none m.fault) ≡ b
               → FaultsAt mid files e.faults.items c m (ReplacesAt (map (seen names files) text) (seen_place files hash) (old.has among.0 c && is_none m.fault) m (map (seen more files) (items_at new e.list c)))
@@ -135,12 +111,8 @@ module _ {old s : Sets} (keeps : Keeps old s) (w : Walk) (among live : Cond) (li
               told same (without_defined (macros_at s names w.table c) (map (replaced.unhidden names) text)) refl (replaces c now (asked-at c m listed simulates ∙ same))
           by false same =
               let nothing = others c now (asked-at c m listed simulates ∙ same) in
-              record {
-                fault = None;
-                told = ap (map (seen_fault files)) nothing.1;
-                fresh = λ some. absurd (true≢false (sym some));
-                done = replacing_idle same (kept_items ∙ ap (map (seen more files)) nothing.0);
-              }
+              no-fault (ap (map (seen_fault files)) nothing.1)
+              (replacing_idle same (kept_items ∙ ap (map (seen more files)) nothing.0))
 
   -- ---- what is left is evaluated
 
@@ -161,21 +133,13 @@ module _ {old s : Sets} (keeps : Keeps old s) (w : Walk) (among live : Cond) (li
         told : (old.has among.0 c && is_none m.fault) ≡ true → (r : Result Bool (Failure _)) → Comes standard (seen_place files hash) (Ok (decided.line_of names files (items_at s list c))) r
             → decided.Stands r (mid.has d.taken.0 c) (map (seen_fault files) (faults_at mid d.faults.items c))
             → FaultsAt mid files d.faults.items c m (EvaluatesAt standard (seen_place files hash) (map (seen names files) (items_at old list c)) (old.has among.0 c && is_none m.fault) m (new.has d.taken.0 c))
-        told asked (Ok is_taken) comes stands = record {
-          fault = None;
-          told = stands.1;
-          fresh = λ some. absurd (true≢false (sym some));
-          done = evaluating_done asked
-              (subst (λ b. Comes standard (seen_place files hash) (Ok (map unhidden (map (seen names files) (items_at old list c)))) (Ok b)) (sym (kept_taken ∙ stands.0))
-              (subst (λ items. Comes standard (seen_place files hash) (Ok (map unhidden (map (seen names files) items))) (Ok is_taken)) (items_at-Keeps list c keeps own_list listed) comes));
-        }
-        told asked (Err why) comes stands = record {
-          fault = Some (fault_of why);
-          told = stands.1;
-          fresh = λ _. right-none (old.has among.0 c) m.fault asked;
-          done = evaluating_fails why asked (kept_taken ∙ stands.0)
-              (subst (λ items. Comes standard (seen_place files hash) (Ok (map unhidden (map (seen names files) items))) (Err why)) (items_at-Keeps list c keeps own_list listed) comes);
-        }
+        told asked (Ok is_taken) comes stands = no-fault stands.1
+            (evaluating_done asked
+            (subst (λ b. Comes standard (seen_place files hash) (Ok (map unhidden (map (seen names files) (items_at old list c)))) (Ok b)) (sym (kept_taken ∙ stands.0))
+            (subst (λ items. Comes standard (seen_place files hash) (Ok (map unhidden (map (seen names files) items))) (Ok is_taken)) (items_at-Keeps list c keeps own_list listed) comes)))
+        told asked (Err why) comes stands = one-fault (fault_of why) stands.1 (right-none (old.has among.0 c) m.fault asked)
+            (evaluating_fails why asked (kept_taken ∙ stands.0)
+            (subst (λ items. Comes standard (seen_place files hash) (Ok (map unhidden (map (seen names files) items))) (Err why)) (items_at-Keeps list c keeps own_list listed) comes))
 
         by : (b : Bool) → (old.has among.0 c && is_none m.fault) ≡ b
             → FaultsAt mid files d.faults.items c m (EvaluatesAt standard (seen_place files hash) (map (seen names files) (items_at old list c)) (old.has among.0 c && is_none m.fault) m (new.has d.taken.0 c))
@@ -184,12 +148,8 @@ module _ {old s : Sets} (keeps : Keeps old s) (w : Walk) (among live : Cond) (li
             told same x.answer x.comes x.stands
         by false same =
             let nothing = others c now (asked-at c m listed simulates ∙ same) in
-            record {
-              fault = None;
-              told = ap (map (seen_fault files)) nothing.1;
-              fresh = λ some. absurd (true≢false (sym some));
-              done = evaluating_idle same (kept_taken ∙ nothing.0);
-            }
+            no-fault (ap (map (seen_fault files)) nothing.1)
+            (evaluating_idle same (kept_taken ∙ nothing.0))
 
 -- ---- the stages, one after another
 

@@ -9,7 +9,7 @@ use Rattle.sc_base.specs.declared.token.Token as base_token
 use Rattle.sc_if.specs.Replaced as replaced
 use Rattle.sc_model.specs.Token.{Place, Token}
 use Rattle.sc_prep.proofs.Facts.{comes-expanded}
-use Rattle.sc_prep.proofs.Terms.{Alternative, BadIf, Cause, Decided, DecidesAt, EvaluatesAt, Expands, ExpandsAt, Expression, Failure, Fault, Hidden, Line, Machine, Macros, Opening, ReplacesAt, Standard, Test, TextExpands, acts, asks_by, behind_name, conditional_of, deciding_done, deciding_fails, deciding_idle, evaluating_done, evaluating_fails, evaluating_idle, expanding_done, expanding_fails, expanding_idle, failed, fault_of, hash_of, next_branch, opened, place_alone, replacing_done, replacing_fails, replacing_idle, result_map, same_bytes, seen, seen_fault, seen_line, seen_place, step_by, test_of, text_of_answer, token_of, unhidden}
+use Rattle.sc_prep.proofs.Terms.{Alternative, BadIf, Cause, Conditional, Decided, DecidesAt, EvaluatesAt, Expands, ExpandsAt, Expression, Failure, Fault, Hidden, Line, Machine, Macros, Opening, ReplacesAt, Standard, Test, TextExpands, acts, asks_by, behind_name, conditional_of, deciding_done, deciding_fails, deciding_idle, evaluating_done, evaluating_fails, evaluating_idle, expanding_done, expanding_fails, expanding_idle, failed, fault_of, hash_of, next_branch, opened, place_alone, replacing_done, replacing_fails, replacing_idle, result_map, same_bytes, seen, seen_fault, seen_line, seen_place, step_by, test_of, text_of_answer, token_of, unhidden}
 
 -- ---- only the places differ between a line and what is seen of it
 
@@ -149,42 +149,36 @@ module _ (x : Context) (l : Line) (hash : Token) (asks : test_of l ≡ Some Expr
 
 -- ---- the line that has a test
 
--- what opens a section does so by what it decides
-pub decided-opening : (x : Context) (l : Line) {test : Test} {asked : Bool} {m n : Machine} {is_taken : Bool} → conditional_of l ≡ Some (Opening test) → asked ≡ acts m → DecidesAt x l asked m is_taken n → Decided x m l (opened n is_taken)
-decided-opening x l {m = m} {is_taken = is_taken} named same (deciding_idle quiet untaken) = record {
+-- the machine goes by what the line decides
+decided-as : (x : Context) (l : Line) (c : Conditional) (goes : Machine → Bool → Machine) {asked : Bool} {m n : Machine} {is_taken : Bool} → conditional_of l ≡ Some c
+    → asked ≡ asks_by m (Some c) → ((b : Bool) → goes m b ≡ step_by m l (Ok b) (Some c)) → ((fault : Fault) → goes (failed m fault) false ≡ step_by m l (Err fault) (Some c))
+    → DecidesAt x l asked m is_taken n → Decided x m l (goes n is_taken)
+decided-as x l c goes {m = m} named same ok err (deciding_idle quiet untaken) = record {
   decision = Ok false;
   answers = record { asked = λ asks. let both = sym quiet ∙ (same ∙ (sym (ap (asks_by m) named) ∙ asks)) in absurd (cc); not_asked = λ _. refl };
-  is = ap (opened m) untaken ∙ ap (step_by m l (Ok false)) (sym named);
+  is = ap (goes m) untaken ∙ (ok false ∙ ap (step_by m l (Ok false)) (sym named));
 }
-decided-opening x l {m = m} {is_taken = is_taken} named same (deciding_done asked decides) = record {
+decided-as x l c goes {m = m} {is_taken = is_taken} named same ok err (deciding_done asked decides) = record {
   decision = Ok is_taken;
   answers = record { asked = λ _. decides; not_asked = λ idle. let both = sym idle ∙ (ap (asks_by m) named ∙ (sym same ∙ asked)) in absurd (cc) };
-  is = ap (step_by m l (Ok is_taken)) (sym named);
+  is = ok is_taken ∙ ap (step_by m l (Ok is_taken)) (sym named);
 }
-decided-opening x l {m = m} named same (deciding_fails fault asked untaken decides) = record {
+decided-as x l c goes {m = m} named same ok err (deciding_fails fault asked untaken decides) = record {
   decision = Err fault;
   answers = record { asked = λ _. decides; not_asked = λ idle. let both = sym idle ∙ (ap (asks_by m) named ∙ (sym same ∙ asked)) in absurd (cc) };
-  is = ap (opened (failed m fault)) untaken ∙ ap (step_by m l (Err fault)) (sym named);
+  is = ap (goes (failed m fault)) untaken ∙ (err fault ∙ ap (step_by m l (Err fault)) (sym named));
 }
 
+-- what opens a section does so by what it decides
+pub decided-opening : (x : Context) (l : Line) {test : Test} {asked : Bool} {m n : Machine} {is_taken : Bool} → conditional_of l ≡ Some (Opening test) → asked ≡ acts m
+    → DecidesAt x l asked m is_taken n → Decided x m l (opened n is_taken)
+decided-opening x l {test} named same = decided-as x l (Opening test) opened named same (λ b. refl) (λ fault. refl)
+
 -- and what goes on with one
-pub decided-alternative : (x : Context) (l : Line) {test : Test} {asked : Bool} {m n : Machine} {is_taken : Bool} → conditional_of l ≡ Some (Alternative test) → asked ≡ acts (next_branch m true m.sections) → DecidesAt x l asked m is_taken n
-    → Decided x m l (next_branch n is_taken n.sections)
-decided-alternative x l {m = m} {is_taken = is_taken} named same (deciding_idle quiet untaken) = record {
-  decision = Ok false;
-  answers = record { asked = λ asks. let both = sym quiet ∙ (same ∙ (sym (ap (asks_by m) named) ∙ asks)) in absurd (cc); not_asked = λ _. refl };
-  is = ap (λ b. next_branch m b m.sections) untaken ∙ ap (step_by m l (Ok false)) (sym named);
-}
-decided-alternative x l {m = m} {is_taken = is_taken} named same (deciding_done asked decides) = record {
-  decision = Ok is_taken;
-  answers = record { asked = λ _. decides; not_asked = λ idle. let both = sym idle ∙ (ap (asks_by m) named ∙ (sym same ∙ asked)) in absurd (cc) };
-  is = ap (step_by m l (Ok is_taken)) (sym named);
-}
-decided-alternative x l {m = m} named same (deciding_fails fault asked untaken decides) = record {
-  decision = Err fault;
-  answers = record { asked = λ _. decides; not_asked = λ idle. let both = sym idle ∙ (ap (asks_by m) named ∙ (sym same ∙ asked)) in absurd (cc) };
-  is = ap (λ b. next_branch (failed m fault) b m.sections) untaken ∙ ap (step_by m l (Err fault)) (sym named);
-}
+pub decided-alternative : (x : Context) (l : Line) {test : Test} {asked : Bool} {m n : Machine} {is_taken : Bool} → conditional_of l ≡ Some (Alternative test)
+    → asked ≡ acts (next_branch m true m.sections) → DecidesAt x l asked m is_taken n → Decided x m l (next_branch n is_taken n.sections)
+decided-alternative x l {test} named same =
+    decided-as x l (Alternative test) (λ m b. next_branch m b m.sections) named same (λ b. refl) (λ fault. refl)
 
 -- ---- the # of a line that has one
 

@@ -3,9 +3,10 @@ use Rattle.std.proofs.Common.{Global, lt-ltb, ◌≡◌, ℕ, zero, suc, ◌+◌
 use Rattle.sc_base.specs.Interns.{Interns, fresh, known}
 use Rattle.std.proofs.lemmas.Bool.Decides.{eqb_tells}
 use Rattle.std.specs.List.{prefix_len}
+use Rattle.sc_expand.proofs.AlikeLemmas.{all-back}
 use Rattle.sc_prep.proofs.ApartLemmas.{pairs-head, pairs-tail}
-use Rattle.sc_prep.proofs.Facts.{All-tail, cases_lt, AllPairs-cons, All-cons, All-head, All-nil, All-push, IsConfig-Keeps, drop_more, eqb-true, map-append, position-Some, take-append-drop}
-use Rattle.sc_prep.proofs.ListsAt.{all-unmap, items-keeps, items-push, map-next}
+use Rattle.sc_prep.proofs.Facts.{All-tail, cases_lt, AllPairs-cons, All-cons, All-head, All-nil, All-push, IsConfig-Keeps, drop_more, eqb-true, map-append, position-Some, take-append-drop, or-false}
+use Rattle.sc_prep.proofs.ListsAt.{items-keeps, items-push, map-next}
 use Rattle.sc_prep.proofs.Terms.{AddsFile, AreOnce, ArePlainPaths, Cond, Content, Contents, Denotes, File, FileId, Files, Found, IsCond, IsConfig, Keeps, LooksUp, Part, Rc, Sets, Standard, file_with, files_at, found_or, has_no_newline, option_map, part_of, search}
 use Rattle.sc_prep.specs.Contents.{Agrees, AreContents, IsContent, absent, content_at, nested, refused}
 
@@ -29,10 +30,6 @@ search-past held (x ∷ xs) ys none =
 
 -- ---- more configurations for one part
 
-or_false : (b : Bool) → (b || false) ≡ b
-or_false true = refl
-or_false false = refl
-
 or_true : (b : Bool) → (b || true) ≡ true
 or_true true = refl
 or_true false = refl
@@ -45,7 +42,7 @@ module _ (s : Sets) (c : List ℕ) (p : Part) where
   pub set-others : (parts : List Part) (i : ℕ) → i < length parts → p.file ≡ (get_or parts i p).file → s.has p.cond.0 c ≡ (s.has (get_or parts i p).cond.0 c || false) → files_at s (slice_set parts i p) c ≡ files_at s parts c
   set-others [] i within file has = refl
   set-others (x ∷ xs) zero within file has =
-      ap (λ b. if b then p.file ∷ files_at s xs c else files_at s xs c) (has ∙ or_false (s.has x.cond.0 c))
+      ap (λ b. if b then p.file ∷ files_at s xs c else files_at s xs c) (has ∙ or-false (s.has x.cond.0 c))
       ∙ ap (λ f. if s.has x.cond.0 c then f ∷ files_at s xs c else files_at s xs c) file
   set-others (x ∷ xs) (suc i) within file has = ap (λ r. if s.has x.cond.0 c then x.file ∷ r else r) (set-others xs i (omega (arith, within)) file has)
 
@@ -193,7 +190,7 @@ looks-more {standard} {more = more} {more_files = more_files} {later = later} f 
     record {
       contents_are = subst (λ h. AreContents standard more more_files h later) same two.contents_are;
       reads = record { each = λ n c at. two.reads.each n c (one.reads.each n c at) };
-      paths = λ all old. two.paths (All-cons P (f x) [] (subst (λ y. P (f y)) (sym is) (all-unmap P f xs all i x within)) (All-nil P)) (one.paths all old);
+      paths = λ all old. two.paths (All-cons P (f x) [] (subst (λ y. P (f y)) (sym is) (all-back P f xs all i x within)) (All-nil P)) (one.paths all old);
     }
 
 -- ---- what was found for one header more
@@ -209,5 +206,5 @@ adds-none {old} {new} keeps cond was next same own own_next meaning =
       files_here = λ c listed has none. files c listed ∙ none;
       missing_here = λ c listed has. meaning.at c (IsConfig-Keeps keeps listed) ∙ ap (λ b. old.has was.missing.0 c || b) has;
       files_others = λ c listed has. files c listed;
-      missing_others = λ c listed has. meaning.at c (IsConfig-Keeps keeps listed) ∙ (ap (λ b. old.has was.missing.0 c || b) has ∙ or_false (old.has was.missing.0 c));
+      missing_others = λ c listed has. meaning.at c (IsConfig-Keeps keeps listed) ∙ (ap (λ b. old.has was.missing.0 c || b) has ∙ or-false (old.has was.missing.0 c));
     }

@@ -1,5 +1,6 @@
 -- The files of headers, found one header after the other.
 use Rattle.std.proofs.Common.{◌≡◌, ℕ, ◌+◌, ◌<◌, ◌≤◌, ◌||◌, is_none, Bool, true, false, List, [], ◌∷◌, ◌++◌, take, length, get_or, Option, Some, None, append-nil, refl, sym, ap, subst, ◌∙◌, arith, if◌then◌else◌, string_bytes}
+use Rattle.sc_expand.proofs.MachineCalls.{last-alone}
 use Rattle.sc_prep.proofs.Contents.{agrees-back}
 use Rattle.sc_prep.proofs.Facts.{All-from_recursion, All-nil, Extends-keeps, IsConfig-Keeps, recursion_from_All}
 use Rattle.sc_prep.proofs.ListsAt.{items-next}
@@ -55,11 +56,6 @@ module _ {held : Files} {including : List ℕ} {directories : List (List ℕ)} w
   finds-one h None e = missing h e
   finds-one h (Some file) e = found h file e
 
-short-before : {A : Type 0} (xs : List A) (x : A) → length (xs ++ x ∷ []) ≤ 1 → xs ≡ []
-short-before [] x short = refl
-short-before (y ∷ []) x short = absurd (omega (arith, short))
-short-before (y ∷ z ∷ ys) x short = absurd (omega (arith, short))
-
 module _ {standard : Standard} {old mid new : Sets} (named : List Named) (i : ℕ) (n : Named) {including : List ℕ} {directories names files more more_files : List (List ℕ)} {holds : Option Files} {contents later : Contents} {was next : Found} (file : Option FileId)
     (grows : Extends names more) (files_grow : Extends files more_files) (read : AreContents standard names files holds contents) (reads : KeepsContents contents later) (keeps : Keeps old mid)
     (within : i < length named) (is : n ≡ get_or named i n) (own : IsCond old n.cond.0) (are : AreFound standard old (take i named) including directories names files contents mid was)
@@ -84,7 +80,7 @@ module _ {standard : Standard} {old mid new : Sets} (named : List Named) (i : �
 
     here : old.has n.cond.0 c ≡ true → length (headers_in old (take (i + 1) named) c) ≤ 1 → Finds (headers_in old (take (i + 1) named) c) (files_at new next.parts.items c) (new.has next.missing.0 c)
     here has short =
-        let empty : before ≡ [] = short-before before n.header (subst (λ hs. length hs ≤ 1) (split true has) short) in
+        let empty : before ≡ [] = last-alone before n.header (subst (λ hs. length hs ≤ 1) (split true has) short) in
         let nothing = finds-nothing empty (was-found (subst (λ (hs : List Header). length hs ≤ 1) (sym empty) (omega arith))) in
         let files_are : files_at new next.parts.items c ≡ option_to_list file = adds.files_here c (IsConfig-Keeps keeps listed) (has-mid true has) nothing.0 in
         let missing_is : new.has next.missing.0 c ≡ is_none file = adds.missing_here c (IsConfig-Keeps keeps listed) (has-mid true has) ∙ ap (λ b. b || is_none file) nothing.1 in

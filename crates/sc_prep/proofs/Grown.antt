@@ -1,36 +1,29 @@
 -- A walk stays where it is as the tables of names, of files and of hide sets grow.
-use Rattle.std.proofs.Common.{◌≡◌, ℕ, ◌<◌, Bool, true, false, List, [], ◌∷◌, All, length, map, refl, sym, ap, ◌∙◌, unwrap_or, if◌then◌else◌}
+use Rattle.std.proofs.Common.{◌≡◌, ℕ, ◌<◌, Bool, true, false, List, [], ◌∷◌, All, length, map, refl, ap, ◌∙◌, if◌then◌else◌}
 use Rattle.sc_base.specs.declared.fault.Fault as base_fault
 use Rattle.sc_base.specs.declared.token.Token as base
-use Rattle.sc_model.specs.Token.{name_of}
+use Rattle.sc_if.proofs.Replacements.{held-grown as token-held, text_at-grown}
 use Rattle.sc_prep.proofs.Contents.{IsPlaced-later, place-later, tokens-later}
 use Rattle.sc_prep.proofs.Facts.{Extends-refl, Extends-within, items_at-Keeps, macros_at-Extends, recursion_from_All}
 use Rattle.sc_prep.proofs.OnceLemmas.{held-more, once-later}
-use Rattle.sc_prep.proofs.Terms.{AllByRecursion as Every, AllPass, ArePlaced, Cond, Extends, IsCond, IsConfig, IsHeldWalk, IsPlaced, IsTable, Keeps, Machine, Name, Sets, Simulates, Walk, any_token, faults_at, has_no_newline, is_plain, items_at, seen, seen_fault, text_at}
+use Rattle.sc_prep.proofs.Terms.{AllByRecursion as Every, AllPass, ArePlaced, Cond, Extends, IsCond, IsConfig, IsHeldWalk, IsPlaced, IsTable, Keeps, Machine, Name, Sets, Simulates, Walk, any_token, faults_at, has_no_newline, is_plain, items_at, seen, seen_fault}
 use Rattle.sc_prep.proofs.Texts.{holds-later, items_at-All, run-later}
 
 -- ---- the table of texts
 
 module _ {names more : List (List ℕ)} (grows : Extends names more) where
-  text-grown : (id : ℕ) → id < length names → text_at more id ≡ text_at names id
-  text-grown id within = ap (λ t. unwrap_or t []) (grows.kept id within)
-
   pub placed-grown : (files : ℕ) (t : base.Token) → IsPlaced names files t → IsPlaced more files t
   placed-grown files t placed = record {
-    held = record {
-      spelling = Extends-within t.spelling.0 placed.held.spelling grows;
-      name = Extends-within t.name.0 placed.held.name grows;
-      stands_for = text-grown t.name.0 placed.held.name ∙ (placed.held.stands_for ∙ ap name_of (sym (text-grown t.spelling.0 placed.held.spelling)));
-    };
+    held = token-held grows t placed.held;
     file = placed.file;
   }
 
   pub plain-grown : (files : ℕ) (list : List (Cond × base.Token)) → ArePlaced names files list → AllPass (is_plain names) list → AllPass (is_plain more) list
-  plain-grown files list placed plain = λ k d h. ap has_no_newline (text-grown _ (placed k d h).held.spelling) ∙ plain k d h
+  plain-grown files list placed plain = λ k d h. ap has_no_newline (text_at-grown grows _ (placed k d h).held.spelling) ∙ plain k d h
 
 -- ---- all tables
 
-faults-later : (s : Sets) {files more : List (List ℕ)} → Extends files more → (fs : List base_fault.Fault) (c : List ℕ) → Every (λ (f : base_fault.Fault). f.place.file.0 < length files) fs
+pub faults-later : (s : Sets) {files more : List (List ℕ)} → Extends files more → (fs : List base_fault.Fault) (c : List ℕ) → Every (λ (f : base_fault.Fault). f.place.file.0 < length files) fs
     → map (seen_fault more) (faults_at s fs c) ≡ map (seen_fault files) (faults_at s fs c)
 faults-later s files_grow [] c there = refl
 faults-later s {files} {more} files_grow (f ∷ fs) c there = by (faults-later s files_grow fs c there.1) (s.has f.cond.0 c)

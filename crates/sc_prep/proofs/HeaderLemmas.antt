@@ -3,17 +3,13 @@ use Rattle.std.proofs.Common.{◌≡◌, ℕ, ◌+◌, ◌<◌, ◌||◌, Bool, 
 use Rattle.c11_headers.specs.Headers as headers
 use Rattle.sc_base.specs.declared.token.Token as base
 use Rattle.sc_model.specs.Token.{Token}
-use Rattle.sc_prep.proofs.Facts.{All-nil, All-push, IsConfig-Keeps, map-append, map-one, recursion_from_All}
+use Rattle.sc_prep.proofs.Facts.{All-nil, All-push, IsConfig-Keeps, map-append, map-one, or-false, recursion_from_All}
 use Rattle.sc_prep.proofs.ListsAt.{items-keeps, items-next, items-push}
 use Rattle.sc_prep.proofs.PlainWalks.{header-plain}
 use Rattle.sc_prep.proofs.Terms.{AddsHeader, AllByRecursion as Every, AreHeaders, BadInclude, Cause, Cond, Denotes, Header, IsCond, Keeps, Named, NamesAll, NamesHeader, OwnsHeaders, Sets, has_no_newline, headers_in, is_plain, is_unnamed, named_in, seen, seen_header, unnamed_in, with_named}
 use Rattle.sc_prep.specs.Alternatives.{alternative_tokens, tokens_in}
 use Rattle.sc_prep.specs.declared.alternatives.Alternative.{Alternative}
 use Rattle.sc_prep.specs.declared.naming.Headers.{Headers}
-
-or_false : (b : Bool) → (b || false) ≡ b
-or_false true = refl
-or_false false = refl
 
 or_both : (a b c : Bool) → (a || (b || c)) ≡ ((a || b) || c)
 or_both true b c = refl
@@ -37,7 +33,7 @@ module _ (lists : List (List Token)) (ts : List Token) (hs : List Header) (u : B
   more-named : (b : Bool) (h : Header) → headers.header_of ts ≡ Ok (seen_header h) → NamesAll (lists ++ (if b then ts ∷ [] else [])) (hs ++ (if b then h ∷ [] else [])) u
   more-named true h is = record {
     named_are = map-append seen_header hs (h ∷ []) ∙ (ap (λ l. l ++ seen_header h ∷ []) all.named_are ∙ (ap (λ r. named_in lists ++ with_named r []) (sym is) ∙ sym (named-append lists ts)));
-    unnamed_is = all.unnamed_is ∙ (sym (or_false (unnamed_in lists)) ∙ (ap (λ r. unnamed_in lists || (is_unnamed r || false)) (sym is) ∙ sym (unnamed-append lists ts)));
+    unnamed_is = all.unnamed_is ∙ (sym (or-false (unnamed_in lists)) ∙ (ap (λ r. unnamed_in lists || (is_unnamed r || false)) (sym is) ∙ sym (unnamed-append lists ts)));
   }
   more-named false h is = record {
     named_are = ap (map seen_header) (append-nil hs) ∙ (all.named_are ∙ ap named_in (sym (append-nil lists)));
@@ -51,7 +47,7 @@ module _ (lists : List (List Token)) (ts : List Token) (hs : List Header) (u : B
   }
   more-unnamed false cause is = record {
     named_are = all.named_are ∙ ap named_in (sym (append-nil lists));
-    unnamed_is = or_false u ∙ (all.unnamed_is ∙ ap unnamed_in (sym (append-nil lists)));
+    unnamed_is = or-false u ∙ (all.unnamed_is ∙ ap unnamed_in (sym (append-nil lists)));
   }
 
 abbrev pair_of : Named → Cond × Header

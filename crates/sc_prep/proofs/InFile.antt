@@ -1,7 +1,7 @@
 -- The lines of a file leave a machine in the file, and one that takes none of them stays so.
 use Rattle.std.proofs.Common.{◌≡◌, ℕ, ◌&&◌, not, Bool, true, false, List, [], ◌∷◌, Option, Some, None, Result, Ok, Err, refl, sym, ap, ◌∙◌, subst, IfOk, is_none, if◌then◌else◌}
 use Rattle.sc_model.specs.Token.{Token}
-use Rattle.sc_prep.proofs.Machine.{inert_plain, inert_takes}
+use Rattle.sc_prep.proofs.Machine.{branch-kept, end-kept, inert_plain, inert_takes}
 use Rattle.sc_prep.proofs.Terms.{AllByRecursion as Every, Alternative, Carries, Cause, Conditional, Context, Directive, Else, Endif, Entry, Fault, Line, Machine, Macros, Opening, Runs, State, Takes, acts, arriving, asks_by, back, branched_as, carries, changed, changed_by, changing, closes, closing_run, conditional_of, ended, included, is_barrier, next_branch, no_header, not_changed, not_expanded, not_numbered, numbered, opened, opened_as, plain_by, put_out, result_map, state_behind, step_by, takes, too_deep, with_text}
 use Rattle.sc_prep.specs.Machine as machine
 use Rattle.sc_prep.specs.Simulates.{IsInside, IsIn, IsAtTop, begins, idles}
@@ -61,25 +61,16 @@ opened_as-stays : (m : Machine) (r : Result Bool Fault) → whereabouts (opened_
 opened_as-stays m (Ok test) = refl
 opened_as-stays m (Err fault) = refl
 
-next-stays : (m : Machine) (test : Bool) (ss : List (Bool × Bool)) → whereabouts (next_branch m test ss).state ≡ whereabouts m.state
-next-stays m test [] = refl
-next-stays m true (s ∷ ss) = refl
-next-stays m false (s ∷ ss) = refl
-
 branched-stays : (m : Machine) (r : Result Bool Fault) → whereabouts (branched_as m r).state ≡ whereabouts m.state
-branched-stays m (Ok test) = next-stays m test m.sections
-branched-stays m (Err fault) = next-stays (record m { fault = Some fault }) false m.sections
-
-ended-stays : (m : Machine) (ss : List (Bool × Bool)) → whereabouts (ended m ss).state ≡ whereabouts m.state
-ended-stays m [] = refl
-ended-stays m (s ∷ ss) = refl
+branched-stays m (Ok test) = ap whereabouts (branch-kept m test m.sections).1
+branched-stays m (Err fault) = ap whereabouts (branch-kept (record m { fault = Some fault }) false m.sections).1
 
 step-stays : (m : Machine) (l : Line) (r : Result Bool Fault) (c : Option Conditional) → whereabouts (step_by m l r c).state ≡ whereabouts m.state
 step-stays m l r None = plain-stays m l l.directive
 step-stays m l r (Some (Opening test)) = opened_as-stays m r
 step-stays m l r (Some (Alternative test)) = branched-stays m r
-step-stays m l r (Some Else) = next-stays m true m.sections
-step-stays m l r (Some Endif) = ended-stays m m.sections
+step-stays m l r (Some Else) = ap whereabouts (branch-kept m true m.sections).1
+step-stays m l r (Some Endif) = ap whereabouts (end-kept m m.sections).1
 
 pub takes-stays : {x : Context} {m n : Machine} {l : Line} → Takes x m l n → whereabouts n.state ≡ whereabouts m.state
 takes-stays {m = m} {l = l} (takes r mild answers) = step-stays m l r (conditional_of l)

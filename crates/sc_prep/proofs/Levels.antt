@@ -17,7 +17,7 @@ level m = (m.active, m.sections)
 
 -- ---- a line that is no conditional directive
 
-closing-level : (m : Machine) (r : Result (List Token) Fault) → level (closing_run m r) ≡ level m
+pub closing-level : (m : Machine) (r : Result (List Token) Fault) → level (closing_run m r) ≡ level m
 closing-level m (Ok output) = refl
 closing-level m (Err fault) = refl
 

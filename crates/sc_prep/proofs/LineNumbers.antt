@@ -2,7 +2,7 @@
 use Rattle.std.proofs.Common.{◌≡◌, ℕ, ◌+◌, ◌-◌, ◌*◌, ◌<◌, ◌≤◌, ◌&&◌, Bool, true, false, List, [], ◌∷◌, drop, length, get_or, refl, ap, ◌∙◌, arith, if◌then◌else◌, nat_le}
 use Rattle.c11_expressions.specs.Constants.{digit_value, number_behind, number_of}
 use Rattle.c11_tokens.specs.declared.base.Base.TheVariants.{Decimal}
-use Rattle.sc_prep.proofs.Facts.{and_parts, drop_all, drop_more, le-leb, lt-leb}
+use Rattle.sc_prep.proofs.Facts.{and-true, and_parts, drop_all, drop_more, le-leb, lt-leb}
 use Rattle.sc_prep.proofs.Terms.{greatest_line, is_digit, is_line_number, list_all}
 
 behind_end : (n : ℕ) → number_behind Decimal n [] ≡ n
@@ -50,11 +50,7 @@ module _ (bs : List ℕ) (n i : ℕ) where
       let digits : list_all is_digit bs ≡ true = read.digits ∙ ap (list_all is_digit) (drop_all i bs end) in
       ap (λ t. t && (nat_le 1 (number_of Decimal bs) && nat_le (number_of Decimal bs) greatest_line)) digits
       ∙ (ap (λ m. nat_le 1 m && nat_le m greatest_line) number
-      ∙ (ap (λ t. nat_le 1 n && t) (le-leb n greatest_line small) ∙ right (nat_le 1 n)))
-    where
-      right : (a : Bool) → (a && true) ≡ a
-      right true = refl
-      right false = refl
+      ∙ (ap (λ t. nat_le 1 n && t) (le-leb n greatest_line small) ∙ and-true (nat_le 1 n)))
 
 -- the number is already too great
 pub great-read : (bs : List ℕ) (n : ℕ) (rest : List ℕ) → greatest_line < n → IsRead bs n rest → is_line_number bs ≡ false

@@ -17,13 +17,15 @@ abbrev AreApart : Token → Token → Type 0
 AreApart t u = t.place ≡ u.place → ⊥
 
 -- no token of a line is at the place of one of a later line
-abbrev pub LinesApart : List Line → Type 0
-LinesApart [] = Unit {0}
-LinesApart (l ∷ ls) = Every (λ (t : Token). Every (λ (k : Line). Every (AreApart t) k.tokens) ls) l.tokens × LinesApart ls
-
 abbrev PartsApart : List (List Token) → Type 0
 PartsApart [] = Unit {0}
 PartsApart (l ∷ ls) = Every (λ (t : Token). Every (λ k. Every (AreApart t) k) ls) l × PartsApart ls
+
+abbrev tokens_each : List Line → List (List Token)
+tokens_each ls = map (λ (l : Line). l.tokens) ls
+
+abbrev pub LinesApart : List Line → Type 0
+LinesApart ls = PartsApart (tokens_each ls)
 
 module _ {A : Type 0} (P : A → Type 0) where
   every-onto : (t : A) (ls : List (List A)) → P t → Every (λ l. Every P l) ls → Every (λ l. Every P l) (onto_first t ls)
@@ -51,23 +53,14 @@ parts-split ends [] pairs = tt
 parts-split ends (t ∷ ts) pairs =
     parts-next (ends t) t (split_lines ends ts) (every-split (AreApart t) ends ts (recursion_from_All (AreApart t) ts (pairs-head AreApart t ts pairs))) (parts-split ends ts (pairs-tail AreApart t ts pairs))
 
-every-lines : (standard : Standard) (P : Token → Type 0) (ls : List (List Token)) → Every (λ k. Every P k) ls → Every (λ (k : Line). Every P k.tokens) (map (line_of standard) ls)
-every-lines standard P [] all = tt
-every-lines standard P (l ∷ ls) all = (all.0, every-lines standard P ls all.1)
-
-every-each : (P Q : Token → Type 0) → ((t : Token) → P t → Q t) → (ts : List Token) → Every P ts → Every Q ts
-every-each P Q goes [] all = tt
-every-each P Q goes (t ∷ ts) all = (goes t all.0, every-each P Q goes ts all.1)
-
-lines-of-parts : (standard : Standard) (ls : List (List Token)) → PartsApart ls → LinesApart (map (line_of standard) ls)
-lines-of-parts standard [] apart = tt
-lines-of-parts standard (l ∷ ls) apart =
-    (every-each (λ t. Every (λ k. Every (AreApart t) k) ls) (λ t. Every (λ (k : Line). Every (AreApart t) k.tokens) (map (line_of standard) ls)) (λ t all. every-lines standard (AreApart t) ls all) l apart.0, lines-of-parts standard ls apart.1)
+lines-tokens : (standard : Standard) (ls : List (List Token)) → tokens_each (map (line_of standard) ls) ≡ ls
+lines-tokens standard [] = refl
+lines-tokens standard (l ∷ ls) = ap (λ ks. l ∷ ks) (lines-tokens standard ls)
 
 -- the lines of a file
 pub seen-apart : (standard : Standard) (names files : List (List ℕ)) (tokens : List base.Token) → StandApart tokens → LinesApart (seen_lines standard names files tokens)
 seen-apart standard names files tokens apart =
-    lines-of-parts standard (split_lines (λ (t : Token). is_newline t.kind) (map (seen names files) tokens))
+    subst PartsApart (sym (lines-tokens standard (split_lines (λ (t : Token). is_newline t.kind) (map (seen names files) tokens))))
     (parts-split (λ (t : Token). is_newline t.kind) (map (seen names files) tokens)
     (pairs-map AreApart (seen names files) tokens (λ i j d low below same. apart i j d low below (ap (λ (p : Place). p.position) same))))
 
@@ -92,7 +85,7 @@ among-none {t} among = by among.before among.is
     by [] e = cc
     by (b ∷ before) e = cc
 
-every-line : (P : Token → Type 0) (ls : List Line) (j : ℕ) → Every (λ (k : Line). Every P k.tokens) ls → Every P (line_at ls j).tokens
+every-line : (P : Token → Type 0) (ls : List Line) (j : ℕ) → Every (λ k. Every P k) (tokens_each ls) → Every P (line_at ls j).tokens
 every-line P [] j all = tt
 every-line P (l ∷ ls) zero all = all.0
 every-line P (l ∷ ls) (suc j) all = every-line P ls j all.1
@@ -101,7 +94,7 @@ later-apart : (lines : List Line) → LinesApart lines → (i j : ℕ) → i < j
 later-apart [] apart i j before t u one other = absurd (among-none one)
 later-apart (l ∷ ls) apart zero zero before t u one other = absurd (omega (arith, before))
 later-apart (l ∷ ls) apart (suc i) zero before t u one other = absurd (omega (arith, before))
-later-apart (l ∷ ls) apart zero (suc j) before t u one other = every-among (AreApart t) other (every-line (AreApart t) ls j (every-among (λ (t : Token). Every (λ (k : Line). Every (AreApart t) k.tokens) ls) one apart.0))
+later-apart (l ∷ ls) apart zero (suc j) before t u one other = every-among (AreApart t) other (every-line (AreApart t) ls j (every-among (λ (t : Token). Every (λ k. Every (AreApart t) k) (tokens_each ls)) one apart.0))
 later-apart (l ∷ ls) apart (suc i) (suc j) before t u one other = later-apart ls apart.1 i j (omega (arith, before)) t u one other
 
 -- the lines of tokens at one place are one

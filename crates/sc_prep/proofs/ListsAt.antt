@@ -1,6 +1,6 @@
 -- What stands at a configuration of lists whose items have a condition.
 use Rattle.std.proofs.Common.{◌≡◌, ℕ, ◌+◌, ◌<◌, List, [], ◌∷◌, ◌++◌, All, map, take, length, get_or, sym, ap, ◌∙◌, if◌then◌else◌}
-use Rattle.sc_prep.proofs.Facts.{All-cons, All-head, All-map, All-nil, All-tail, items_at-Keeps, items_at-append, map-append, take_more}
+use Rattle.sc_prep.proofs.Facts.{All-map, items_at-Keeps, items_at-append, map-append, take_more}
 use Rattle.sc_prep.proofs.Terms.{Cond, IsCond, IsConfig, Keeps, Sets, items_at}
 
 module _ {A T : Type 0} (f : A → Cond × T) where
@@ -16,10 +16,6 @@ module _ {A T : Type 0} (f : A → Cond × T) where
   pub items-keeps : {old new : Sets} (xs : List A) (c : List ℕ) → Keeps old new → All (λ x. IsCond old (f x).0.0) xs → IsConfig old.arities c
       → items_at new (map f xs) c ≡ items_at old (map f xs) c
   items-keeps {old} xs c keeps own listed = items_at-Keeps (map f xs) c keeps (All-map (λ item. IsCond old item.0.0) f xs own) listed
-
-pub all-unmap : {A B : Type 0} (P : B → Type 0) (f : A → B) (xs : List A) → All P (map f xs) → All (λ x. P (f x)) xs
-all-unmap P f [] all = All-nil (λ x. P (f x))
-all-unmap P f (x ∷ xs) all = All-cons (λ x. P (f x)) x xs (All-head P (f x) (map f xs) all) (all-unmap P f xs (All-tail P (f x) (map f xs) all))
 
 pub map-next : {A B : Type 0} (f : A → B) (xs : List A) (i : ℕ) (x : A) → i < length xs → x ≡ get_or xs i x → map f (take (i + 1) xs) ≡ map f (take i xs) ++ f x ∷ []
 map-next f xs i x within is =

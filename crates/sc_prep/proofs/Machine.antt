@@ -149,6 +149,21 @@ pub inert_changing : (m : Machine) (l : Line) (d : Directive) (r : Result Macros
 inert_changing m l d (Ok macros) e = inert_acting m (λ s. state_behind s l d macros) e
 inert_changing m l d (Err cause) e = inert_refusing m l cause e
 
+pub right-none : {F : Type 0} (a : Bool) (f : Option F) → (a && is_none f) ≡ true → f ≡ None
+right-none true None e = refl
+right-none true (Some x) e = absurd (cc)
+right-none false f e = absurd (cc)
+
+-- the next branch of a section, and its end, leave the fault and the state
+pub branch-kept : (m : Machine) (t : Bool) (ss : List (Bool × Bool)) → ((next_branch m t ss).fault ≡ m.fault) × ((next_branch m t ss).state ≡ m.state)
+branch-kept m t [] = (refl, refl)
+branch-kept m true (s ∷ ss) = (refl, refl)
+branch-kept m false (s ∷ ss) = (refl, refl)
+
+pub end-kept : (m : Machine) (ss : List (Bool × Bool)) → ((ended m ss).fault ≡ m.fault) × ((ended m ss).state ≡ m.state)
+end-kept m [] = (refl, refl)
+end-kept m (s ∷ ss) = (refl, refl)
+
 pub inert_plain : (m : Machine) (l : Line) → acts m ≡ false → plain_step m l ≡ m
 inert_plain m l e = by l.directive
   where

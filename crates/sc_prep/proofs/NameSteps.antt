@@ -4,9 +4,10 @@ use Rattle.std.proofs.Common.{◌≡◌, ℕ, ◌&&◌, Bool, true, false, List,
 use Rattle.sc_base.specs.declared.fault.Fault as base
 use Rattle.sc_base.specs.declared.place.Place as base_place
 use Rattle.sc_model.specs.Token.{Token}
-use Rattle.sc_prep.proofs.ExpressionMoves.{asked-at, right-none}
-use Rattle.sc_prep.proofs.Facts.{IsConfig-Keeps, and-false, and-true, macros_at-Keeps, true≢false}
-use Rattle.sc_prep.proofs.StageRefusals.{FaultsAt}
+use Rattle.sc_prep.proofs.ExpressionMoves.{asked-at}
+use Rattle.sc_prep.proofs.Facts.{IsConfig-Keeps, and-false, and-true, macros_at-Keeps}
+use Rattle.sc_prep.proofs.Machine.{right-none}
+use Rattle.sc_prep.proofs.StageRefusals.{FaultsAt, no-fault, one-fault}
 use Rattle.sc_prep.proofs.Terms.{BadDirective, Cond, Context, Decides, DecidesAt, Definition, Denotes, IsConfig, IsTable, Keeps, Line, Machine, Macros, Sets, Simulates, SimulatesOneOf, SimulatesStep, State, Walk, deciding_done, deciding_fails, deciding_idle, fault_at, faults_at, hash_of, if_defined, if_undefined, is_taken, macros_at, name_test, no_name, operand_of, option_map, place_in, seen_fault, seen_place, test_of}
 
 module _ (x : Context) (l : Line) (s : State) where
@@ -70,15 +71,7 @@ module _ {old s : Sets} (keeps : Keeps old s) (w : Walk) (among live : Cond) (li
 
       by : (asked : Bool) → (old.has among.0 c && is_none m.fault) ≡ asked
           → FaultsAt s files (fault ∷ []) c m (DecidesAt x l (old.has among.0 c && is_none m.fault) m (new.has never.0 c))
-      by true asked = record {
-        fault = Some (fault_at BadDirective hash.place);
-        told = told-by true (asked-at keeps w among live live_is c m listed simulates ∙ asked) ∙ ap (λ p. fault_at BadDirective p ∷ []) placed;
-        fresh = λ _. right-none (old.has among.0 c) m.fault asked;
-        done = deciding_fails (fault_at BadDirective hash.place) asked (nothing c listed) (no-name-decides x l m.state wanted hash asks operand hashed);
-      }
-      by false asked = record {
-        fault = None;
-        told = told-by false (asked-at keeps w among live live_is c m listed simulates ∙ asked);
-        fresh = λ some. absurd (true≢false (sym some));
-        done = deciding_idle asked (nothing c listed);
-      }
+      by true asked = one-fault (fault_at BadDirective hash.place) (told-by true (asked-at keeps w among live live_is c m listed simulates ∙ asked) ∙ ap (λ p. fault_at BadDirective p ∷ []) placed) (right-none (old.has among.0 c) m.fault asked)
+          (deciding_fails (fault_at BadDirective hash.place) asked (nothing c listed) (no-name-decides x l m.state wanted hash asks operand hashed))
+      by false asked = no-fault (told-by false (asked-at keeps w among live live_is c m listed simulates ∙ asked))
+          (deciding_idle asked (nothing c listed))

@@ -5,9 +5,10 @@ use Rattle.c11_macros.specs.Expansion.{IsWithin}
 use Rattle.sc_expand.proofs.PlainTables.{entry_names, within-table}
 use Rattle.sc_expand.specs.Footprints.{StopsAtName}
 use Rattle.sc_prep.proofs.ApartLemmas.{different}
-use Rattle.sc_prep.proofs.ExpressionMoves.{asked-at, right-none}
+use Rattle.sc_prep.proofs.ExpressionMoves.{asked-at}
 use Rattle.sc_prep.proofs.Facts.{items_at-Keeps, macros_at-Keeps}
 use Rattle.sc_prep.proofs.LeftRuns.{left-has}
+use Rattle.sc_prep.proofs.Machine.{right-none}
 use Rattle.sc_prep.proofs.NameFootprints.{name-as, name-footprints}
 use Rattle.sc_prep.proofs.Stopping.{stops-as}
 use Rattle.sc_prep.proofs.Terms.{AreDifferent, Comes, Cond, Denotes, IsCond, IsConfig, IsTable, Keeps, NameHas, Sets, Spot, StandApart, Stop, StopsAtPlace, Used, Walk, acts, any_machine, items_at, macros_at, place_alone, run_at, seen, tokens_in, tokens_read, unhidden}

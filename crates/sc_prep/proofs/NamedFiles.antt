@@ -5,7 +5,7 @@ use Rattle.c11_headers.specs.Headers as headers
 use Rattle.sc_base.specs.declared.token.Token as base
 use Rattle.sc_model.specs.Token.{Token}
 use Rattle.sc_prep.proofs.Contents.{tokens-later}
-use Rattle.sc_prep.proofs.Facts.{All-from_recursion, All-head, All-tail, All-weaker, Extends-refl, Extends-trans, IsConfig-Keeps, IsConfig-kept, IsTable-Extends, IsTable-Keeps, Keeps-trans, PlainToken, and_parts, map-one, ne_eqb, not-true, not_from_false, or_from, true≢false}
+use Rattle.sc_prep.proofs.Facts.{All-from_recursion, All-head, All-tail, All-weaker, Extends-refl, Extends-trans, IsConfig-Keeps, IsConfig-kept, IsTable-Extends, IsTable-Keeps, Keeps-trans, PlainToken, and-false, and_parts, map-one, ne_eqb, not-true, not_from_false, or_from, true≢false}
 use Rattle.sc_prep.proofs.FoundFiles.{finds-nothing}
 use Rattle.sc_prep.proofs.Grown.{simulates-later}
 use Rattle.sc_prep.proofs.LineSteps.{line-grown}
@@ -22,10 +22,6 @@ use Rattle.sc_prep.specs.Machine as machine
 use Rattle.sc_prep.specs.declared.alternatives.Alternative.{Alternative}
 
 -- ---- refusals
-
-and-false : (b : Bool) → (b && false) ≡ false
-and-false true = refl
-and-false false = refl
 
 -- who is refused does nothing more
 pub refused-inert : (m : Machine) (fault : Fault) → acts m ≡ true → acts (arriving m (Err fault)) ≡ false

@@ -1,13 +1,14 @@
 -- The n-th elements that a configuration has of a list.
-use Rattle.std.proofs.Common.{◌≡◌, ℕ, zero, suc, ◌+◌, ◌-◌, ◌<◌, ◌≤◌, Bool, true, false, List, [], ◌∷◌, ◌++◌, All, length, map, map-id, slice_get, take, Some, refl, sym, ap, subst, ◌∙◌, arith, if◌then◌else◌}
+use Rattle.std.proofs.Common.{◌≡◌, ℕ, zero, suc, ◌+◌, ◌-◌, ◌<◌, ◌≤◌, Bool, true, false, List, [], ◌∷◌, ◌++◌, All, append_assoc, length, map, slice_get, take, Some, refl, sym, ap, subst, ◌∙◌, arith, if◌then◌else◌}
 use Rattle.std.proofs.lemmas.List.{take-append-le, take_at}
-use Rattle.std.proofs.lemmas.Option.{same_Some, slice_get_within}
+use Rattle.std.proofs.lemmas.Option.{same_Some, slice_get-map, slice_get_within}
+use Rattle.sc_expand.proofs.Behind.{length-behind}
 use Rattle.sc_expand.specs.Having.{behind_at}
 use Rattle.sc_expand.specs.Spans.{indexes_at}
 use Rattle.sc_expand.specs.Thin.{IsNth}
 use Rattle.sc_model.proofs.ListLemmas.{found_in, slice_get-front, slice_get-seam}
-use Rattle.sc_prep.proofs.Facts.{All-head, All-tail, items_at-append, length-map, map-append, map-map}
-use Rattle.sc_prep.proofs.Terms.{Cond, IsCond, IsConfig, Keeps, Sets, items_at}
+use Rattle.sc_prep.proofs.Facts.{All-head, All-tail, items_at-append, length-append, length-map}
+use Rattle.sc_prep.proofs.Terms.{Cond, IsCond, IsConfig, Keeps, Sets, items_at, option_map}
 
 -- ---- lists
 
@@ -18,18 +19,12 @@ some-at (x ∷ xs) (suc n) short = some-at xs n (omega (arith, short))
 
 -- an element of a mapped list
 pub get-map : {A B : Type 0} (f : A → B) (xs : List A) (n : ℕ) (x : A) → slice_get xs n ≡ Some x → slice_get (map f xs) n ≡ Some (f x)
-get-map f [] n x at = absurd (cc)
-get-map f (y ∷ ys) zero x at = ap (λ z. Some (f z)) (same_Some y x at)
-get-map f (y ∷ ys) (suc n) x at = get-map f ys n x at
+get-map f xs n x at = slice_get-map f xs n ∙ ap (option_map f) at
 
 -- behind a first list
 pub get-behind : {A : Type 0} (xs ys : List A) (n : ℕ) → slice_get (xs ++ ys) (length xs + n) ≡ slice_get ys n
 get-behind [] ys n = let same : 0 + n ≡ n = omega arith in ap (slice_get ys) same
 get-behind (x ∷ xs) ys n = let same : suc (length xs) + n ≡ suc (length xs + n) = omega arith in ap (slice_get (x ∷ (xs ++ ys))) same ∙ get-behind xs ys n
-
-pub take-behind : {A : Type 0} (xs ys : List A) (n : ℕ) → take (length xs + n) (xs ++ ys) ≡ xs ++ take n ys
-take-behind [] ys n = let same : 0 + n ≡ n = omega arith in ap (λ k. take k ys) same
-take-behind (x ∷ xs) ys n = let same : suc (length xs) + n ≡ suc (length xs + n) = omega arith in ap (λ k. take k (x ∷ (xs ++ ys))) same ∙ ap (λ l. x ∷ l) (take-behind xs ys n)
 
 -- a list at one of its elements
 pub record SplitsAt {A : Type 0} (list : List A) (i : ℕ) (item : A) : Type 0 where
@@ -37,13 +32,14 @@ pub record SplitsAt {A : Type 0} (list : List A) (i : ℕ) (item : A) : Type 0 w
   pub back : List A
   pub is : list ≡ front ++ item ∷ back
   pub index : length front ≡ i
+  pub first : front ≡ take i list
 
 pub splits-at : {A : Type 0} (list : List A) (i : ℕ) (item : A) → slice_get list i ≡ Some item → SplitsAt list i item
 splits-at [] i item at = absurd (cc)
-splits-at (x ∷ xs) zero item at = record { front = []; back = xs; is = ap (λ y. y ∷ xs) (same_Some x item at); index = refl }
+splits-at (x ∷ xs) zero item at = record { front = []; back = xs; is = ap (λ y. y ∷ xs) (same_Some x item at); index = refl; first = refl }
 splits-at (x ∷ xs) (suc i) item at =
     let it = splits-at xs i item at in
-    record { front = x ∷ it.front; back = it.back; is = ap (λ l. x ∷ l) it.is; index = ap suc it.index }
+    record { front = x ∷ it.front; back = it.back; is = ap (λ l. x ∷ l) it.is; index = ap suc it.index; first = ap (λ l. x ∷ l) it.first }
 
 -- ---- indexes
 
@@ -73,31 +69,9 @@ module _ {T : Type 0} (s : Sets) (c : List ℕ) where
       by true e = (λ i. first i ∷ e i)
       by false e = e
 
-  pub indexes-append : (xs ys : List (Cond × T)) → indexes_at s (xs ++ ys) c ≡ indexes_at s xs c ++ map (λ i. length xs + i) (indexes_at s ys c)
-  indexes-append [] ys =
-      let zero_left : (i : ℕ) → i ≡ 0 + i = λ i. omega arith in
-      sym (map-id (indexes_at s ys c)) ∙ (λ j. map (λ i. zero_left i j) (indexes_at s ys c))
-  indexes-append (x ∷ xs) ys =
-      let one_more : (i : ℕ) → suc (length xs + i) ≡ suc (length xs) + i = λ i. omega arith in
-      let rest = ap (map suc) (indexes-append xs ys)
-      ∙ (map-append suc (indexes_at s xs c) (map (λ i. length xs + i) (indexes_at s ys c))
-      ∙ ap (λ l. map suc (indexes_at s xs c) ++ l) (map-map suc (λ i. length xs + i) (indexes_at s ys c) ∙ (λ j. map (λ i. one_more i j) (indexes_at s ys c)))) in
-      indexes-cons x (xs ++ ys) ∙ (by (s.has x.0.0 c) rest ∙ ap (λ l. l ++ map (λ i. suc (length xs) + i) (indexes_at s ys c)) (sym (indexes-cons x xs)))
-    where
-      by : (b : Bool) → map suc (indexes_at s (xs ++ ys) c) ≡ map suc (indexes_at s xs c) ++ map (λ i. suc (length xs) + i) (indexes_at s ys c)
-          → (if b then 0 ∷ map suc (indexes_at s (xs ++ ys) c) else map suc (indexes_at s (xs ++ ys) c))
-          ≡ (if b then 0 ∷ map suc (indexes_at s xs c) else map suc (indexes_at s xs c)) ++ map (λ i. suc (length xs) + i) (indexes_at s ys c)
-      by true rest = ap (λ l. 0 ∷ l) rest
-      by false rest = rest
-
   -- an index for each element
-  pub length-indexes : (list : List (Cond × T)) → length (indexes_at s list c) ≡ length (items_at s list c)
-  length-indexes [] = refl
-  length-indexes (x ∷ xs) = ap length (indexes-cons x xs) ∙ by (s.has x.0.0 c) (length-map (indexes_at s xs c) suc ∙ length-indexes xs)
-    where
-      by : (b : Bool) → length (map suc (indexes_at s xs c)) ≡ length (items_at s xs c) → length (if b then 0 ∷ map suc (indexes_at s xs c) else map suc (indexes_at s xs c)) ≡ length (if b then x.1 ∷ items_at s xs c else items_at s xs c)
-      by true rest = ap suc rest
-      by false rest = rest
+  length-indexes : (list : List (Cond × T)) → length (indexes_at s list c) ≡ length (items_at s list c)
+  length-indexes list = length-map (behind_at s list c) (λ m. length list - suc m) ∙ length-behind s c list
 
   -- ---- the n-th
 
@@ -139,17 +113,21 @@ module _ {T : Type 0} (s : Sets) (c : List ℕ) where
       by true has (suc k) at again = next true k has at again
       by false has n at again = next false n has at again
 
+  nth-at : (front : List (Cond × T)) (item : Cond × T) (back : List (Cond × T)) → s.has item.0.0 c ≡ true → IsNth s (front ++ item ∷ back) c (length (items_at s front c)) (length front)
+  nth-at [] item back has = ap (λ l. slice_get l 0) (indexes-cons item back ∙ ap (λ b. if b then 0 ∷ map suc (indexes_at s back c) else map suc (indexes_at s back c)) has)
+  nth-at (x ∷ xs) item back has = by (s.has x.0.0 c) (indexes-cons x rest) (get-map suc (indexes_at s rest c) (length (items_at s xs c)) (length xs) (nth-at xs item back has))
+    where
+      rest : List (Cond × T)
+      rest = xs ++ item ∷ back
+
+      by : (b : Bool) → indexes_at s (x ∷ rest) c ≡ (if b then 0 ∷ map suc (indexes_at s rest c) else map suc (indexes_at s rest c))
+          → slice_get (map suc (indexes_at s rest c)) (length (items_at s xs c)) ≡ Some (suc (length xs))
+          → slice_get (indexes_at s (x ∷ rest) c) (length (if b then x.1 ∷ items_at s xs c else items_at s xs c)) ≡ Some (suc (length xs))
+      by true is later = ap (λ l. slice_get l (suc (length (items_at s xs c)))) is ∙ later
+      by false is later = ap (λ l. slice_get l (length (items_at s xs c))) is ∙ later
+
   pub stands-nth : {list : List (Cond × T)} {n i : ℕ} → StandsAt list n i → IsNth s list c n i
-  stands-nth {list} {n} {i} at =
-      let before = indexes_at s at.front c in
-      let behind = indexes_at s (at.item ∷ at.back) c in
-      let first : behind ≡ 0 ∷ map suc (indexes_at s at.back c) = indexes-cons at.item at.back ∙ ap (λ b. if b then 0 ∷ map suc (indexes_at s at.back c) else map suc (indexes_at s at.back c)) at.has in
-      let long : length before + 0 ≡ n = (let count = length-indexes at.front in let many = at.many in omega (arith, count, many)) in
-      let shifted : length at.front + 0 ≡ i = (let is = at.index in omega (arith, is)) in
-      ap (λ l. slice_get (indexes_at s l c) n) at.is
-      ∙ (ap (λ l. slice_get l n) (indexes-append at.front (at.item ∷ at.back))
-      ∙ (ap (slice_get (before ++ map (λ j. length at.front + j) behind)) (sym long)
-      ∙ (get-behind before (map (λ j. length at.front + j) behind) 0 ∙ (ap (λ l. slice_get (map (λ j. length at.front + j) l) 0) first ∙ ap Some shifted))))
+  stands-nth at = subst (λ (p : List (Cond × T) × ℕ × ℕ). IsNth s p.0 c p.1 p.2) (λ j. (sym at.is j, at.many j, at.index j)) (nth-at at.front at.item at.back at.has)
 
   pub stands-get : {list : List (Cond × T)} {n i : ℕ} (at : StandsAt list n i) → slice_get list i ≡ Some at.item
   stands-get at = (λ j. slice_get (at.is j) (sym at.index j)) ∙ slice_get-seam at.front at.item at.back
@@ -183,8 +161,8 @@ module _ {T : Type 0} (s : Sets) (c : List ℕ) where
   -- in a longer list
   pub nth-front : (xs ys : List (Cond × T)) (n i : ℕ) → IsNth s xs c n i → IsNth s (xs ++ ys) c n i
   nth-front xs ys n i at =
-      ap (λ l. slice_get l n) (indexes-append xs ys)
-      ∙ (slice_get-front (indexes_at s xs c) (map (λ j. length xs + j) (indexes_at s ys c)) n (slice_get_within (indexes_at s xs c) n i at) ∙ at)
+      let it = nth-stands xs n i at in
+      stands-nth (record { item = it.item; has = it.has; front = it.front; back = it.back ++ ys; is = ap (λ l. l ++ ys) it.is ∙ append_assoc it.front (it.item ∷ it.back) ys; index = it.index; many = it.many })
 
   pub nth-of-front : (xs ys : List (Cond × T)) (n i : ℕ) → i < length xs → IsNth s (xs ++ ys) c n i → IsNth s xs c n i
   nth-of-front xs ys n i less at =
@@ -195,14 +173,24 @@ module _ {T : Type 0} (s : Sets) (c : List ℕ) where
 
   pub nth-behind : (xs ys : List (Cond × T)) (n i : ℕ) → IsNth s ys c n i → IsNth s (xs ++ ys) c (length (items_at s xs c) + n) (length xs + i)
   nth-behind xs ys n i at =
-      let before = indexes_at s xs c in
-      let after = map (λ j. length xs + j) (indexes_at s ys c) in
-      ap (λ l. slice_get l (length (items_at s xs c) + n)) (indexes-append xs ys)
-      ∙ (ap (λ k. slice_get (before ++ after) (k + n)) (sym (length-indexes xs)) ∙ (get-behind before after n ∙ get-map (λ j. length xs + j) (indexes_at s ys c) n i at))
+      let it = nth-stands ys n i at in
+      stands-nth (record {
+        item = it.item;
+        has = it.has;
+        front = xs ++ it.front;
+        back = it.back;
+        is = ap (λ l. xs ++ l) it.is ∙ sym (append_assoc xs it.front (it.item ∷ it.back));
+        index = length-append xs it.front ∙ ap (λ k. length xs + k) it.index;
+        many = ap length (items_at-append s xs it.front c) ∙ (length-append (items_at s xs c) (items_at s it.front c) ∙ ap (λ k. length (items_at s xs c) + k) it.many);
+      })
+
+  -- who has an item has some
+  pub some-item : (list : List (Cond × T)) (i : ℕ) (item : Cond × T) → slice_get list i ≡ Some item → s.has item.0.0 c ≡ true → items_at s list c ≡ [] → ⊥
+  some-item list i item at has none = let it = had-stands list i item at has in let within = nth-within list it.0 i (stands-nth it.1) in omega (arith, within, ap length none)
 
 -- ---- of other stores, and of other lists under the same conditions
 
-pub behind-kept : {T : Type 0} {old new : Sets} (list : List (Cond × T)) {c : List ℕ} → Keeps old new → All (λ (item : Cond × T). IsCond old item.0.0) list → IsConfig old.arities c → behind_at new list c ≡ behind_at old list c
+behind-kept : {T : Type 0} {old new : Sets} (list : List (Cond × T)) {c : List ℕ} → Keeps old new → All (λ (item : Cond × T). IsCond old item.0.0) list → IsConfig old.arities c → behind_at new list c ≡ behind_at old list c
 behind-kept [] keeps own listed = refl
 behind-kept {T} {old} {new} (x ∷ xs) {c} keeps own listed =
     let P : Cond × T → Type 0 = λ item. IsCond old item.0.0 in

@@ -1,24 +1,22 @@
 -- The number of a line, seen at each configuration (C11 6.10.4).
-use Rattle.std.proofs.Common.{◌≡◌, ℕ, ◌+◌, ◌<◌, ◌&&◌, ◌||◌, not, Bool, true, false, List, [], ◌∷◌, map, take, length, get_or, Some, Ok, Err, refl, sym, ap, subst, ◌∙◌, if◌then◌else◌, is_none}
+use Rattle.std.proofs.Common.{◌≡◌, ℕ, ◌+◌, ◌<◌, ◌&&◌, ◌||◌, not, Bool, true, false, List, [], ◌∷◌, map, take, length, get_or, Some, Ok, Err, refl, sym, ap, subst, ◌∙◌, if◌then◌else◌}
 use Rattle.c11_directives.specs.declared.directive.Directive.TheVariants as directive
 use Rattle.sc_model.specs.Token as model
-use Rattle.sc_prep.proofs.Facts.{IsConfig-Keeps, IsConfig-kept, IsTable-Keeps, Keeps-trans, list_any-append, true≢false}
+use Rattle.sc_prep.proofs.Facts.{IsConfig-Keeps, IsConfig-kept, IsTable-Keeps, Keeps-trans, and_right, list_any-append, or-false, true≢false}
 use Rattle.sc_prep.proofs.ListsAt.{items-next}
 use Rattle.sc_prep.proofs.Machine.{inert_refusing}
+use Rattle.sc_prep.proofs.NamedFiles.{refused-inert}
 use Rattle.sc_prep.proofs.RunLemmas.{denotes-as}
-use Rattle.sc_prep.proofs.Terms.{BadDirective, Cond, Context, Denotes, Fault, IsConfig, Keeps, Line, RefusedAt, Sets, SimulatesOneOf, SimulatesStep, Standard, Token, Walk, first_place, hash_of, is_numbering, items_at, list_any, not_expanded, not_numbered, numbered, option_map, place_in, seen, seen_line, unwrap_or}
-use Rattle.sc_prep.proofs.WalkMoves.{simulates-kept}
+use Rattle.sc_prep.proofs.Terms.{BadDirective, Cond, Context, Denotes, IsConfig, Keeps, Line, RefusedAt, Sets, SimulatesOneOf, SimulatesStep, Standard, Token, Walk, first_place, hash_of, is_numbering, items_at, list_any, not_expanded, not_numbered, numbered, option_map, place_in, seen, seen_line, unwrap_or}
+use Rattle.sc_prep.proofs.WalkMoves.{same_state, simulates-kept}
 use Rattle.sc_prep.specs.Alternatives.{alternative_tokens, tokens_in}
 use Rattle.sc_prep.specs.Machine.{Carried, Machine, SaysAt, acts, arriving, inert, refusal, refused, refusing_if, said}
 use Rattle.sc_prep.specs.declared.alternatives.Alternative.{Alternative}
-
-or-none : (a : Bool) → (a || false) ≡ a
-or-none true = refl
-or-none false = refl
+use Rattle.sc_table.proofs.TableLemmas.{and_true}
 
 -- whether a list of at most one element has one that passes
 any-one : {X : Type 0} (test : X → Bool) (b : Bool) (x : X) → list_any test (if b then x ∷ [] else []) ≡ (b && test x)
-any-one test true x = or-none (test x)
+any-one test true x = or-false (test x)
 any-one test false x = refl
 
 -- what a test of tokens told
@@ -37,39 +35,20 @@ module _ (test : List Token → Bool) (s : Sets) (alternatives : List Alternativ
   pub one-passes : {new : Sets} {others : ℕ} → test a.tokens.items ≡ true → Denotes new others (λ c. list_any test (tokens_in s (take i alternatives) c) || s.has a.cond.0 c)
       → Denotes new others (λ c. list_any test (tokens_in s (take (i + 1) alternatives) c))
   one-passes passes = denotes-as (λ c. list_any test (tokens_in s (take i alternatives) c) || s.has a.cond.0 c) (λ c. list_any test (tokens_in s (take (i + 1) alternatives) c))
-      (λ c listed. sym (any-next c ∙ ap (λ b. list_any test (tokens_in s (take i alternatives) c) || b) (with_true (s.has a.cond.0 c) (test a.tokens.items) passes)))
-    where
-      with_true : (h t : Bool) → t ≡ true → (h && t) ≡ h
-      with_true true t e = e
-      with_true false t e = refl
+      (λ c listed. sym (any-next c ∙ ap (λ b. list_any test (tokens_in s (take i alternatives) c) || b) (and_true (s.has a.cond.0 c) (test a.tokens.items) passes)))
 
   pub none-passes : {new : Sets} {others : ℕ} → test a.tokens.items ≡ false → Denotes new others (λ c. list_any test (tokens_in s (take i alternatives) c))
       → Denotes new others (λ c. list_any test (tokens_in s (take (i + 1) alternatives) c))
   none-passes fails = denotes-as (λ c. list_any test (tokens_in s (take i alternatives) c)) (λ c. list_any test (tokens_in s (take (i + 1) alternatives) c))
-      (λ c listed. sym (any-next c ∙ (ap (λ b. list_any test (tokens_in s (take i alternatives) c) || b) (with_false (s.has a.cond.0 c) (test a.tokens.items) fails)
-      ∙ or-none (list_any test (tokens_in s (take i alternatives) c)))))
-    where
-      with_false : (h t : Bool) → t ≡ false → (h && t) ≡ false
-      with_false true t e = e
-      with_false false t e = refl
+      (λ c listed. sym (any-next c ∙ (ap (λ b. list_any test (tokens_in s (take i alternatives) c) || b) (and_right (s.has a.cond.0 c) (test a.tokens.items) fails)
+      ∙ or-false (list_any test (tokens_in s (take i alternatives) c)))))
 
 -- ---- at one configuration
-
-still : (b : Bool) (m : Machine) → m ≡ record m { state = if b then m.state else m.state }
-still true m = refl
-still false m = refl
 
 module _ (x : Context) (l : Line) (hash : model.Token) (hashed : hash_of l ≡ Some hash) where
   refusing-idle : (t : Bool) (m : Machine) → acts m ≡ false → refusing_if t m l BadDirective ≡ m
   refusing-idle true m e = inert_refusing m l BadDirective e
   refusing-idle false m e = refl
-
-  failed-idle : (m : Machine) (fault : Fault) → acts m ≡ true → acts (arriving m (Err fault)) ≡ false
-  failed-idle m fault does = ap (λ b. m.active && is_none (if b then Some fault else m.fault)) does ∙ none m.active
-    where
-      none : (a : Bool) → (a && false) ≡ false
-      none true = refl
-      none false = refl
 
   refused-here : (m : Machine) → RefusedAt m.state l BadDirective (refusal m.state l BadDirective)
   refused-here m = record {
@@ -81,7 +60,7 @@ module _ (x : Context) (l : Line) (hash : model.Token) (hashed : hash_of l ≡ S
   numbered-as {m} ts t tells (inert quiet none) = record {
     end = Ok m.state;
     carries = λ does. absurd (true≢false (sym does ∙ quiet));
-    is = refusing-idle t m quiet ∙ still (acts m) m;
+    is = refusing-idle t m quiet ∙ same_state (acts m) m;
   }
   numbered-as {m} ts t tells (said does says) = by (is_numbering ts) refl
     where
@@ -89,7 +68,7 @@ module _ (x : Context) (l : Line) (hash : model.Token) (hashed : hash_of l ≡ S
       by true e = record {
         end = Ok m.state;
         carries = λ _. numbered ts says e;
-        is = ap (λ b. refusing_if b m l BadDirective) (tells does ∙ ap not e) ∙ still (acts m) m;
+        is = ap (λ b. refusing_if b m l BadDirective) (tells does ∙ ap not e) ∙ same_state (acts m) m;
       }
       by false e = record {
         end = Err (refusal m.state l BadDirective);
@@ -99,7 +78,7 @@ module _ (x : Context) (l : Line) (hash : model.Token) (hashed : hash_of l ≡ S
   numbered-as {m} ts t tells (refused fault does says) = record {
     end = Err fault;
     carries = λ _. not_expanded fault refl says;
-    is = refusing-idle t (arriving m (Err fault)) (failed-idle m fault does);
+    is = refusing-idle t (arriving m (Err fault)) (refused-inert m fault does);
   }
 
 -- ---- at each configuration

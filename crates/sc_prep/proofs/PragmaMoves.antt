@@ -13,24 +13,12 @@ use Rattle.sc_expand.specs.Seen.{seen_failure}
 use Rattle.sc_model.specs.declared.cause.Cause.TheVariants.{BadPragma}
 use Rattle.sc_model.specs.Fault.{Fault}
 use Rattle.sc_model.specs.Token.{Token}
-use Rattle.sc_prep.proofs.Facts.{All-append, All-cons, All-head, All-map, All-nil, All-pop, All-push, IsConfig-Keeps, IsConfig-kept, Keeps-trans, and_parts, faults_at-Keeps, faults_at-append, items_at-Keeps, items_at-append, map-append}
+use Rattle.sc_prep.proofs.Facts.{All-append, All-cons, All-head, All-map, All-nil, All-pop, All-push, IsConfig-Keeps, IsConfig-kept, Keeps-trans, and-false, and-true, and_parts, faults_at-Keeps, faults_at-append, items_at-Keeps, items_at-append, map-append, map-one, none-told, or-false}
 use Rattle.sc_prep.proofs.PragmaPlaces.{each-next, each-none, each-one}
 use Rattle.sc_prep.proofs.RunLemmas.{fault-items, faults-All, part-All, part-later, seen-told}
 use Rattle.sc_prep.proofs.Terms.{Cond, Denotes, Failure, IsCond, IsConfig, IsNever, IsPart, IsWithin, Keeps, Sets, fault_items, faults_at, has_none, is_empty, items_at, seen, seen_fault, seen_place}
 use Rattle.sc_prep.specs.declared.pragmas.Pragmas.{Pragmas}
 use Rattle.sc_prep.specs.Pragmas.{Awaited, AwaitsAt, BeginsPragma, EndsPragmas, HasNoPragma, MovesPragmas, OwnsPragmas, PutsOutside, ReadsPragma, awaited_behind, awaits, awaits_closing, awaits_opening, awaits_text, closing, is_outside, no_operator, nothing, opening, outside, read_behind, text, tokens_within, fault_awaiting}
-
-and_true : (b : Bool) → (b && true) ≡ b
-and_true true = refl
-and_true false = refl
-
-and_false : (b : Bool) → (b && false) ≡ false
-and_false true = refl
-and_false false = refl
-
-or_false : (b : Bool) → (b || false) ≡ b
-or_false true = refl
-or_false false = refl
 
 -- ---- what is awaited, told of a store that has grown
 
@@ -85,7 +73,7 @@ module _ {old new : Sets} {p q : Pragmas} (cond : ℕ) (inside : Denotes new q.i
   left-at : (files : List (List ℕ)) (c : List ℕ) (a : Awaited) → IsConfig old.arities c → AwaitsAt old files p c a → (h : Bool) → old.has cond c ≡ h → AwaitsAt new files q c (if h then no_operator else a)
   left-at files c a listed at true here =
       let now = IsConfig-Keeps keeps listed in
-      let gone : (x y : Bool) → x ≡ (y && not (old.has cond c)) → x ≡ false = λ x y e. e ∙ (ap (λ b. y && not b) here ∙ and_false y) in
+      let gone : (x y : Bool) → x ≡ (y && not (old.has cond c)) → x ≡ false = λ x y e. e ∙ (ap (λ b. y && not b) here ∙ and-false y) in
       record {
         inside = gone _ _ (inside.at c now);
         opening = gone _ _ (opens.at c now);
@@ -95,7 +83,7 @@ module _ {old new : Sets} {p q : Pragmas} (cond : ℕ) (inside : Denotes new q.i
       }
   left-at files c a listed at false here =
       let now = IsConfig-Keeps keeps listed in
-      let still : (x y z : Bool) → x ≡ (y && not (old.has cond c)) → y ≡ z → x ≡ z = λ x y z e same. e ∙ (ap (λ b. y && not b) here ∙ (and_true y ∙ same)) in
+      let still : (x y z : Bool) → x ≡ (y && not (old.has cond c)) → y ≡ z → x ≡ z = λ x y z e same. e ∙ (ap (λ b. y && not b) here ∙ (and-true y ∙ same)) in
       record {
         inside = still _ _ _ (inside.at c now) at.inside;
         opening = still _ _ _ (opens.at c now) at.opening;
@@ -160,7 +148,7 @@ is-read (closing p) true t = by (is_closing t)
     by : (b : Bool) → (if b && true then no_operator else nothing p) ≡ (if b then no_operator else nothing p)
     by true = refl
     by false = refl
-is-read (closing p) false t = ap (λ b. if b then no_operator else closing p) (and_false (is_closing t))
+is-read (closing p) false t = ap (λ b. if b then no_operator else closing p) (and-false (is_closing t))
 is-read (nothing p) true t = refl
 is-read (nothing p) false t = refl
 
@@ -221,7 +209,7 @@ module _ (names : List (List ℕ)) {old middle : Sets} {p : Pragmas} (cond : ℕ
     own = keeps.own _ own;
     within = λ c listed e. sym (keeps.at _ c own listed) ∙ e;
     is_free = λ files c a listed at. keeps.at _ c own listed
-        ∙ ((sym (and_true (old.has cond c)) ∙ ap (λ b. old.has cond c && not b) (sym (none c listed))) ∙ none-inside (fault_awaiting a) (old.has cond c) (old.has p.inside.0 c) at.inside);
+        ∙ ((sym (and-true (old.has cond c)) ∙ ap (λ b. old.has cond c && not b) (sym (none c listed))) ∙ none-inside (fault_awaiting a) (old.has cond c) (old.has p.inside.0 c) at.inside);
   }
     where
       none : (c : List ℕ) → IsConfig old.arities c → (old.has cond c && old.has p.inside.0 c) ≡ false
@@ -274,11 +262,7 @@ begins-operator {old} {new} {p} {q} cond place keeps own owns inside opens texts
     told files c h listed here =
         ap (λ fs. map (seen_fault files) (faults_at new fs c)) faults
         ∙ (ap (map (seen_fault files)) (faults_at-append new p.faults.items (fault ∷ []) c)
-        ∙ (map-append (seen_fault files) (faults_at new p.faults.items c) (faults_at new (fault ∷ []) c) ∙ ap (λ fs. map (seen_fault files) (faults_at new p.faults.items c) ++ fs) (one (new.has cond.0 c) ∙ ap (λ b. if b then seen_fault files fault ∷ [] else []) (keeps.at _ c own listed ∙ here))))
-      where
-        one : (b : Bool) → map (seen_fault files) (if b then fault ∷ [] else []) ≡ (if b then seen_fault files fault ∷ [] else [])
-        one true = refl
-        one false = refl
+        ∙ (map-append (seen_fault files) (faults_at new p.faults.items c) (faults_at new (fault ∷ []) c) ∙ ap (λ fs. map (seen_fault files) (faults_at new p.faults.items c) ++ fs) (map-one (seen_fault files) (new.has cond.0 c) fault ∙ ap (λ b. if b then seen_fault files fault ∷ [] else []) (keeps.at _ c own listed ∙ here))))
 
     by : (files : List (List ℕ)) (c : List ℕ) (a : Awaited) → IsConfig old.arities c → AwaitsAt new files p c a → AwaitsAt old files p c a → (h : Bool) → old.has cond.0 c ≡ h → (old.has cond.0 c ≡ true → a ≡ no_operator)
         → AwaitsAt new files q c (if h then opening (seen_place files place) else a)
@@ -295,8 +279,8 @@ begins-operator {old} {new} {p} {q} cond place keeps own owns inside opens texts
     by files c a listed now at false here free =
         let now_listed = IsConfig-Keeps keeps listed in
         record {
-          inside = inside.at c now_listed ∙ (ap (λ b. old.has p.inside.0 c || b) here ∙ (or_false (old.has p.inside.0 c) ∙ at.inside));
-          opening = opens.at c now_listed ∙ (ap (λ b. old.has p.opening.0 c || b) here ∙ (or_false (old.has p.opening.0 c) ∙ at.opening));
+          inside = inside.at c now_listed ∙ (ap (λ b. old.has p.inside.0 c || b) here ∙ (or-false (old.has p.inside.0 c) ∙ at.inside));
+          opening = opens.at c now_listed ∙ (ap (λ b. old.has p.opening.0 c || b) here ∙ (or-false (old.has p.opening.0 c) ∙ at.opening));
           text = ap (λ (x : Cond). new.has x.0 c) texts ∙ now.text;
           closing = ap (λ (x : Cond). new.has x.0 c) closes ∙ now.closing;
           faults = told files c false listed here ∙ (append-nil (map (seen_fault files) (faults_at new p.faults.items c)) ∙ now.faults);
@@ -468,10 +452,6 @@ pub outside-append : (a : Awaited) (ts us : List Token) → outside a (ts ++ us)
 outside-append a [] us = refl
 outside-append a (t ∷ ts) us = if-append (is_outside a t) t (outside (awaited_behind a t) ts) (outside (awaits (awaited_behind a t) ts) us) (outside-append (awaited_behind a t) ts us)
 
-if-none : (b : Bool) → ◌≡◌ {A = List Token} (if b then [] else []) []
-if-none true = refl
-if-none false = refl
-
 pub puts-none : (names : List (List ℕ)) {s : Sets} {p : Pragmas} (by : ℕ) (list : List (Cond × base_token.Token)) → OwnsPragmas s p → PutsOutside names s p [] by list s p list
 puts-none names {s} {p} by list owns = record {
   kept = [];
@@ -483,8 +463,8 @@ puts-none names {s} {p} by list owns = record {
   };
   among = λ test c listed all. All-nil (λ (x : base_token.Token). test x ≡ true);
   owns = owns;
-  awaits = λ files c a listed at. subst (AwaitsAt s files p c) (ap (awaits a) (sym (if-none (s.has by c)))) at;
-  puts = λ files c a listed at. ap (outside a) (sym (if-none (s.has by c)));
+  awaits = λ files c a listed at. subst (AwaitsAt s files p c) (ap (awaits a) (none-told (s.has by c))) at;
+  puts = λ files c a listed at. ap (outside a) (none-told (s.has by c));
   each = each-none names by;
   placed = λ files there all. all;
 }
@@ -561,14 +541,6 @@ module _ (names : List (List ℕ)) {first s1 s2 s3 : Sets} {p p1 q : Pragmas} {f
       told {x} h = subst (λ ts. Contains ts x) (sym (map-append (λ (j : Cond × base_token.Token). j.1) front ((cond, t) ∷ []))) h
 
 -- ---- runs end
-
--- a move, told of the store before
-pub moves-back : {s1 s2 s3 : Sets} {p q : Pragmas} {behind : (files : List (List ℕ)) → List ℕ → Awaited → Awaited} → Keeps s1 s2 → OwnsPragmas s1 p → MovesPragmas s2 p s3 q behind → MovesPragmas s1 p s3 q behind
-moves-back keeps owns moves = record {
-  owns = moves.owns;
-  at = λ files c a listed at. moves.at files c a (IsConfig-Keeps keeps listed) (awaits-kept keeps owns listed at);
-  placed = moves.placed;
-}
 
 module _ (names : List (List ℕ)) {old s1 s3 new : Sets} {p read q : Pragmas} (items : List (Cond × base_token.Token)) (acting : ℕ) (list : List (Cond × base_token.Token)) {longer : List (Cond × base_token.Token)} (faults unread : List base.Fault) {more : List base.Fault}
     (k1 : Keeps old s1) (k2 : Keeps s1 s3) (k3 : Keeps s3 new) (own : All (λ (f : base.Fault). IsCond old f.cond.0) faults) (acts : IsCond old acting) (puts : PutsOutside names old p items acting list s1 read longer)

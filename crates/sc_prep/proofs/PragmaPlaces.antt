@@ -14,10 +14,6 @@ use Rattle.sc_prep.proofs.Terms.{Cond, Denotes, IsCond, IsConfig, Keeps, Sets, i
 use Rattle.sc_prep.specs.declared.pragmas.Pragmas.{Pragmas}
 use Rattle.sc_prep.specs.Pragmas.{Awaited, AwaitsAt, PutsEach, awaits, first_tokens, is_outside, outside, tokens_within}
 
-none-of : {A : Type 0} (xs : List A) → length xs ≡ 0 → xs ≡ []
-none-of [] none = refl
-none-of (x ∷ xs) none = absurd (omega (arith, none))
-
 -- of no items
 pub each-none : (names : List (List ℕ)) {s : Sets} {p : Pragmas} (by : ℕ) → PutsEach names s p [] by s []
 each-none names by = record { place = λ i. i; at = λ files c a listed at has n i item nth get out. absurd (cc) }

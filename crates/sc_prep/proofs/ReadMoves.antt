@@ -1,9 +1,10 @@
 -- What was read of runs, as runs end, and as the text of some is taken out of it.
-use Rattle.std.proofs.Common.{◌≡◌, ℕ, ◌&&◌, not, Bool, true, false, inl, inr, List, [], ◌∷◌, ◌++◌, All, length, map, reverse, Option, Some, None, append-nil, append_assoc, refl, sym, ap, subst, ◌∙◌, arith, if◌then◌else◌}
+use Rattle.std.proofs.Common.{◌≡◌, ℕ, ◌&&◌, not, Bool, true, false, inl, inr, List, [], ◌∷◌, ◌++◌, All, reverse, Option, Some, None, append-nil, append_assoc, refl, sym, ap, subst, ◌∙◌, if◌then◌else◌}
 use Rattle.std.proofs.lemmas.Grind.{flat_map-append}
-use Rattle.sc_prep.proofs.Facts.{All-head, All-nil, All-push, All-tail, IsConfig-Keeps, items_at-Keeps, items_at-append, map-append, reverse-append}
+use Rattle.sc_prep.proofs.Facts.{All-head, All-nil, All-push, All-tail, IsConfig-Keeps, items_at-Keeps, items_at-append, map-append, none-told, reverse-append}
 use Rattle.sc_prep.proofs.Terms.{Cond, Denotes, EndsRead, IsCond, IsConfig, IsNever, Keeps, Sets, TakesOut, Token, items_at, last_run, option_to_list, run_at, tokens_in, tokens_read}
 use Rattle.sc_prep.proofs.Texts.{last-append}
+use Rattle.sc_prep.proofs.WalkMoves.{map-reverse}
 
 abbrev Owned : Sets → Cond × Option Token → Type 0
 Owned s item = IsCond s item.0.0
@@ -20,22 +21,14 @@ read-push : (read : List (Cond × Option Token)) (item : Cond × Option Token) �
 read-push read item =
     flat_map-append (λ (x : Cond × Option Token). option_to_list x.1) read (item ∷ []) ∙ ap (λ ts. tokens_read read ++ ts) (append-nil (option_to_list item.1))
 
-pub no-items : {T : Type 0} (xs : List T) → length xs ≡ 0 → xs ≡ []
-no-items [] none = refl
-no-items (x ∷ xs) none = absurd (omega arith)
-
 -- ---- runs end
 
 pub ends-nothing : (s : Sets) (read : List (Cond × Option Token)) (acting live : ℕ) → All (Owned s) read → read ≡ [] → EndsRead s read acting live s read
 ends-nothing s read acting live own nothing = record {
   own = own;
-  at = λ c listed is. ap (λ r. run_at s r c) nothing ∙ (by (s.has acting c) ∙ ap (λ r. if s.has acting c then [] else run_at s r c) (sym nothing));
+  at = λ c listed is. ap (λ r. run_at s r c) nothing ∙ (none-told (s.has acting c) ∙ ap (λ r. if s.has acting c then [] else run_at s r c) (sym nothing));
   tokens = inr refl;
 }
-  where
-    by : (b : Bool) → ◌≡◌ {A = List Token} [] (if b then [] else [])
-    by true = refl
-    by false = refl
 
 -- those of all that are live
 pub ends-all : {old new : Sets} (keeps : Keeps old new) (read : List (Cond × Option Token)) (acting live left : ℕ) → Denotes new left (λ c. old.has live c && not (old.has acting c)) → IsNever new left → EndsRead old read acting live new []
@@ -128,11 +121,6 @@ module _ {first old new : Sets} (before : Keeps first old) (keeps : Keeps old ne
 
 -- ---- and put in order
 
-map-back : {A B : Type 0} (f : A → B) (xs : List A) → map f (reverse xs) ≡ reverse (map f xs)
-map-back f [] = refl
-map-back f (x ∷ xs) =
-    ap (map f) (reverse-append (x ∷ []) xs) ∙ (map-append f (reverse xs) (x ∷ []) ∙ (ap (λ ys. ys ++ f x ∷ []) (map-back f xs) ∙ sym (reverse-append (f x ∷ []) (map f xs))))
-
 items-back : {T : Type 0} (s : Sets) (xs : List (Cond × T)) (c : List ℕ) → items_at s (reverse xs) c ≡ reverse (items_at s xs c)
 items-back s [] c = refl
 items-back s (x ∷ xs) c =
@@ -151,11 +139,7 @@ taken-own {now = now} {text = text} was = own-back (λ (item : Cond × Token). I
 
 module _ {first now : Sets} {read : List (Cond × Option Token)} {under left : ℕ} {text : List (Cond × Token)} (was : TakesOut first read under now left text []) where
   pub taken-tokens : tokens_in (reverse text) ≡ tokens_read read
-  taken-tokens = map-back (λ (item : Cond × Token). item.1) text ∙ sym was.tokens
+  taken-tokens = map-reverse (λ (item : Cond × Token). item.1) text ∙ sym was.tokens
 
   pub taken-at : (c : List ℕ) → IsConfig first.arities c → items_at now (reverse text) c ≡ (if first.has under c then run_at first read c else [])
-  taken-at c listed = items-back now text c ∙ sym (was.at c listed ∙ ap (λ ts. ts ++ reverse (items_at now text c)) (by (now.has left c)))
-    where
-      by : (b : Bool) → ◌≡◌ {A = List Token} (if b then [] else []) []
-      by true = refl
-      by false = refl
+  taken-at c listed = items-back now text c ∙ sym (was.at c listed ∙ ap (λ ts. ts ++ reverse (items_at now text c)) (sym (none-told (now.has left c))))

@@ -11,6 +11,7 @@ use Rattle.c11_macros.specs.Trace.{Trace, after_step, both, looked_up_at, trace_
 use Rattle.c11_tokens.specs.Relex.{relexed}
 use Rattle.sc_expand.proofs.Facts.{EachBy, get_or-map, map-set}
 use Rattle.sc_expand.proofs.PlainPlaces.{all, call_result-moved, carried, case_of-moved, expands-moved, moved_case, object_result-moved}
+use Rattle.sc_expand.proofs.TakingParts.{none-found}
 use Rattle.sc_expand.specs.Moved.{IsKept, moved, moved_answer, moved_failure}
 use Rattle.sc_model.specs.Token.{Item}
 use Rattle.sc_prep.proofs.Facts.{map-append}
@@ -152,14 +153,10 @@ module _ {P Q : Type 0} (f : P → Q) where
   abbrev pub moved_uses : Uses P → Uses Q
   moved_uses u = using (all f u.taken) u.looked_up
 
-  none-moved : (xs : List (Hidden P)) → all f xs ≡ [] → xs ≡ []
-  none-moved [] is = refl
-  none-moved (x ∷ xs) is = absurd (cc)
-
   leaves-moved : {source after left rest taken : List (Hidden P)} → Leaves source after left rest taken
       → Leaves (all f source) (all f after) (all f left) (all f rest) (all f taken)
   leaves-moved {source} (within {front} is) = within (ap (all f) is ∙ map-append (moved f) front source)
-  leaves-moved {after = after} (beyond {taken} is some) = beyond (ap (all f) is ∙ map-append (moved f) taken after) (λ none. some (none-moved taken none))
+  leaves-moved {after = after} (beyond {taken} is some) = beyond (ap (all f) is ∙ map-append (moved f) taken after) (λ none. some (none-found (moved f) taken none))
 
   last-moved : (macros : Macros) (t : Hidden P) (rest : List (Hidden P)) → is_last_name macros (moved f t) (all f rest) ≡ is_last_name macros t rest
   last-moved macros t [] = refl

@@ -1,6 +1,7 @@
 -- What a line says behind the name of its directive, seen at each configuration.
 use Rattle.std.proofs.Common.{◌≡◌, ℕ, ◌&&◌, Bool, true, false, All, List, [], drop, map, Some, Ok, Err, refl, sym, ap, subst, ◌∙◌, if◌then◌else◌, is_none}
 use Rattle.sc_model.specs.Token as model
+use Rattle.sc_prep.proofs.ExpressionMoves.{and-twice}
 use Rattle.sc_prep.proofs.Facts.{All-drop, All-map, drop-map, items_at-under, under}
 use Rattle.sc_prep.proofs.Terms.{ArePlaced, Cond, ExpandsAt, Fault, IsCond, IsPlaced, IsTable, Line, Owns, Sets, SimulatesOneOf, Standard, TextExpands, Token, Walk, as_it_stands, begins_with_header, behind_name, expanded, expanding_done, expanding_fails, expanding_idle, failed, items_at, seen, seen_line}
 use Rattle.sc_prep.specs.Machine.{Machine, SaysAt, acts, arriving, inert, refused, said}
@@ -40,11 +41,6 @@ list-placed names files w line list same placed =
     subst (All P) (sym same) (All-map P (λ t. (w.acting, t)) (drop 2 line) (All-drop (IsPlaced names files) 2 line placed))
 
 -- ---- at each configuration
-
-and-twice : (a b : Bool) → ((a && b) && b) ≡ (a && b)
-and-twice true true = refl
-and-twice true false = refl
-and-twice false b = refl
 
 module _ (names files : List (List ℕ)) (s : Sets) (w : Walk) (line : List Token) (list : List (Cond × Token)) (same : list ≡ under w.acting (drop 2 line)) (standard : Standard) where
   pub text-at : (c : List ℕ) → map (seen names files) (items_at s list c) ≡ (if s.has w.acting.0 c then behind_name (seen_line standard names files line) else [])

@@ -13,8 +13,8 @@ use Rattle.sc_expand.proofs.PassesLaws.{none-between, over-source, passes-end, r
 use Rattle.sc_expand.proofs.ThinLemmas.{segments-thin}
 use Rattle.sc_expand.specs.Spans.{ComesAt, InSegments, IsSettling, IsSpan, PutsOutAt, behind, comes, passed}
 use Rattle.sc_expand.specs.Thin.{IsNth}
-use Rattle.sc_prep.proofs.Facts.{items_at-append, length-append, length-map, map-append}
-use Rattle.sc_prep.proofs.NthItems.{SplitsAt, StandsAt, had-stands, nth-behind, nth-front, some-at, some-stands, splits-at, stands-get, stands-items, stands-many, stands-nth}
+use Rattle.sc_prep.proofs.Facts.{items_at-append, length-append, length-map, map-append, take-add}
+use Rattle.sc_prep.proofs.NthItems.{StandsAt, had-stands, nth-behind, nth-front, some-at, some-stands, splits-at, stands-get, stands-items, stands-many, stands-nth}
 use Rattle.sc_prep.proofs.Terms.{Cond, IsConfig, Sets, items_at}
 
 module _ {T P : Type 0} (see : T → Hidden P) (provenance : Provenance P) (macros : List ℕ → Macros) (s : Sets) (list : List (Cond × T)) (c : List ℕ) where
@@ -52,35 +52,16 @@ module _ {T P : Type 0} (see : T → Hidden P) (provenance : Provenance P) (macr
 
   -- fewer stand before an item that stands before another
   stands-less : {n i m j : ℕ} (one : StandsAt s c list n i) (other : StandsAt s c list m j) → i < j → n < m
-  stands-less {n} {i} {m} {j} one other less = by (cases_lt n m)
-    where
-      -- the first items of a list are those of its longer beginning
-      begins-with : {A : Type 0} (xs ys us vs : List A) → xs ++ ys ≡ us ++ vs → length xs ≤ length us → (ws : List A) × (us ≡ xs ++ ws)
-      begins-with [] ys us vs same few = (us, refl)
-      begins-with (x ∷ xs) ys [] vs same few = absurd (omega (arith, few))
-      begins-with (x ∷ xs) ys (u ∷ us) vs same few =
-          let rest : xs ++ ys ≡ us ++ vs = cc in
-          let first : x ≡ u = cc in
-          let it = begins-with xs ys us vs rest (omega (arith, few)) in
-          (it.0, (λ k. sym first k ∷ it.1 k))
-
-      by : (n < m) ⊎ (m ≤ n) → n < m
-      by (inl is) = is
-      by (inr few) =
-          let F : List (Cond × T) = one.front ++ one.item ∷ [] in
-          let whole : F ++ one.back ≡ other.front ++ other.item ∷ other.back = append_assoc one.front (one.item ∷ []) one.back ∙ (sym one.is ∙ other.is) in
-          let index = one.index in
-          let index2 = other.index in
-          let it = begins-with F one.back other.front (other.item ∷ other.back) whole (omega (arith, less, index, index2, length-append one.front (one.item ∷ []))) in
-          let had : items_at s other.front c ≡ (items_at s one.front c ++ one.item.1 ∷ []) ++ items_at s it.0 c =
-          ap (λ l. items_at s l c) it.1
-          ∙ (items_at-append s F it.0 c ∙ ap (λ l. l ++ items_at s it.0 c) (items_at-append s one.front (one.item ∷ []) c ∙ ap (λ b. items_at s one.front c ++ (if b then one.item.1 ∷ [] else [])) one.has)) in
-          let count = ap length had in
-          let parts = length-append (items_at s one.front c ++ one.item.1 ∷ []) (items_at s it.0 c) in
-          let parts2 = length-append (items_at s one.front c) (one.item.1 ∷ []) in
-          let many = one.many in
-          let many2 = other.many in
-          omega (arith, count, parts, parts2, many, many2)
+  stands-less {n} {i} {m} {j} one other less =
+      let d = j - suc i in
+      let gap : i + suc d ≡ j = omega (arith, less) in
+      let there : take (suc d) (drop i list) ≡ one.item ∷ take d one.back = ap (take (suc d)) (ap (drop i) one.is ∙ drop_at one.front (one.item ∷ one.back) i one.index) in
+      let whole : take j list ≡ take i list ++ one.item ∷ take d one.back = ap (λ k. take k list) (sym gap) ∙ (take-add i (suc d) list ∙ ap (λ l. take i list ++ l) there) in
+      let had = ap (λ l. length (items_at s l c)) whole ∙ (ap length (items_at-append s (take i list) (one.item ∷ take d one.back) c) ∙ length-append (items_at s (take i list) c) _) in
+      let last : length (items_at s (one.item ∷ take d one.back) c) ≡ suc (length (items_at s (take d one.back) c)) = ap (λ b. length (if b then one.item.1 ∷ items_at s (take d one.back) c else items_at s (take d one.back) c)) one.has in
+      let many = stands-many s c one in
+      let many2 = stands-many s c other in
+      omega (arith, had, last, many, many2)
 
   stands-order : {n i m j : ℕ} (one : StandsAt s c list n i) (other : StandsAt s c list m j) → n < m → i < j
   stands-order {n} {i} {m} {j} one other less = by (cases_lt i j) (cases_lt j i)
@@ -113,10 +94,7 @@ module _ {T P : Type 0} (see : T → Hidden P) (provenance : Provenance P) (macr
         ap (λ l. F (take (suc n) l)) (it.is ∙ sym (append_assoc it.front (x ∷ []) it.back))
         ∙ (ap F (take_at (it.front ++ x ∷ []) it.back (suc n) long)
         ∙ (flat_map-append (λ segment. segment) it.front (x ∷ [])
-        ∙ ((λ i. F (first it i) ++ append-nil x i))))
-      where
-        first : (it : SplitsAt b.segments n x) → it.front ≡ take n b.segments
-        first it = sym (take_at it.front (x ∷ it.back) n it.index) ∙ ap (take n) (sym it.is)
+        ∙ (λ i. F (it.first i) ++ append-nil x i)))
 
     -- where the configuration doesn't come, nothing is put out
     skipped : (n : ℕ) (x : List (Cond × T)) → slice_get b.segments n ≡ Some x → (Comes n → ⊥) → put x ≡ []
@@ -245,8 +223,7 @@ module _ {T P : Type 0} (see : T → Hidden P) (provenance : Provenance P) (macr
       parts =
           let it = splits-at b.segments at x found in
           let F : List (List (Cond × T)) → List (Cond × T) = flat_map (λ segment. segment) in
-          let first : it.front ≡ take at b.segments = sym (take_at it.front (x ∷ it.back) at it.index) ∙ ap (take at) (sym it.is) in
-          b.is ∙ (ap F it.is ∙ (flat_map-append (λ segment. segment) it.front (x ∷ it.back) ∙ ap (λ l. F l ++ (x ++ F it.back)) first))
+          b.is ∙ (ap F it.is ∙ (flat_map-append (λ segment. segment) it.front (x ∷ it.back) ∙ ap (λ l. F l ++ (x ++ F it.back)) it.first))
 
       pub put-all : put out ≡ (y.before ++ y.done) ++ put last-segments
       put-all =

@@ -13,7 +13,7 @@ use Rattle.sc_expand.specs.Seen.{failures_at, provenance_of, seen_at, seen_failu
 use Rattle.sc_expand.specs.Settling.{IsHeldSettled, IsSettled}
 use Rattle.sc_model.specs.Token.{Place, Token}
 use Rattle.sc_prep.proofs.ApartLemmas.{apart-right, gathers-then}
-use Rattle.sc_prep.proofs.CloseMoves.{empty-seen, plain-by, plain-seen, some-seen}
+use Rattle.sc_prep.proofs.CloseMoves.{both-empty, empty-seen, plain-by, plain-seen, some-seen}
 use Rattle.sc_prep.proofs.Facts.{All-append, All-nil, Keeps-trans, and_parts, Extends-refl, IsConfig-Keeps, IsConfig-kept, IsTable-Extends, IsTable-Keeps, faults_at-Keeps, faults_at-append, items-bared, items_at-Keeps, items_at-append, macros_at-Extends, macros_at-Keeps}
 use Rattle.sc_prep.proofs.Grown.{held-grown, plain-grown, shown-before, simulates-grown}
 use Rattle.sc_prep.proofs.LeftRuns.{left-settled}
@@ -78,10 +78,6 @@ seen_text names files ts = map (seen names files) ts
 empty-none : {A : Type 0} (xs : List A) → is_empty xs ≡ true → xs ≡ []
 empty-none [] e = refl
 empty-none (x ∷ xs) e = absurd (cc)
-
-empty-left : {A : Type 0} (xs ys : List A) → is_empty (xs ++ ys) ≡ true → is_empty xs ≡ true
-empty-left [] ys e = refl
-empty-left (x ∷ xs) ys e = e
 
 some-faults : (files : List (List ℕ)) (fs : List base.Fault) → map (moved_failure (seen_place files)) (map seen_failure fs) ≡ [] → is_empty fs ≡ false → ⊥
 some-faults files [] e some = true≢false some
@@ -420,7 +416,7 @@ module _ (files : List (List ℕ)) {names more : List (List ℕ)} {old mid new :
       let lives : old.has w.prepared.live.0 c ≡ true = sym (all.at w.prepared.live.0 c stored.owns.prepared.live listed) ∙ (ap (λ (u : Walk). new.has u.prepared.live.0 c) (sym puts.same) ∙ parts.0) in
       let none : has_none old w.runs.held.items c ≡ true =
       ap is_empty (sym (faults_at-Keeps w.runs.held.items c all stored.owns.runs.held listed))
-      ∙ empty-left (faults_at new w.runs.held.items c) (faults_at new s.held.items c) (ap is_empty (sym (faults_at-append new w.runs.held.items s.held.items c)) ∙ (ap (λ fs. has_none new fs c) (sym puts.held) ∙ parts.1)) in
+      ∙ (both-empty (faults_at new w.runs.held.items c) (faults_at new s.held.items c) (ap is_empty (sym (faults_at-append new w.runs.held.items s.held.items c)) ∙ (ap (λ fs. has_none new fs c) (sym puts.held) ∙ parts.1))).0 in
       settled-next c listed (ends-asked c listed (ap (λ n. old.has n c) same ∙ (ask.live.at c listed ∙ (λ i. lives i && none i))))
 
 -- ---- and then another stage

@@ -1,35 +1,31 @@
 -- What configurations put out in the lines of a file they share, line by line, up to its end.
-use Rattle.std.proofs.Common.{◌≡◌, ℕ, zero, suc, ◌+◌, ◌<◌, ◌&&◌, ◌⊎◌, inl, inr, take, Bool, true, false, List, [], ◌∷◌, ◌++◌, append-nil, append_assoc, length, map, Option, Some, None, Result, Ok, Err, refl, sym, ap, ◌∙◌, subst, arith, is_none, MatchBool, slice_get, if◌then◌else◌}
+use Rattle.std.proofs.Common.{◌≡◌, ℕ, ◌+◌, ◌<◌, ◌&&◌, ◌⊎◌, inl, inr, take, Bool, true, false, List, [], ◌∷◌, length, Option, Some, None, Result, Ok, Err, refl, sym, ap, ◌∙◌, subst, arith, is_none, MatchBool, if◌then◌else◌}
 use Rattle.std.proofs.lemmas.List.{get_or-take, length-take}
 use Rattle.c11_directives.specs.Footprints.{Spot, Used}
 use Rattle.c11_directives.specs.PutOut.{PutsOut}
 use Rattle.c11_directives.specs.Reaches.{at_line}
 use Rattle.sc_base.specs.declared.token.Token as base
 use Rattle.sc_lines.specs.declared.line.Line as declared
+use Rattle.sc_expand.proofs.TakingParts.{none-found}
 use Rattle.sc_model.specs.Token.{Token}
 use Rattle.sc_prep.proofs.BetweenRuns.{closing-between}
 use Rattle.sc_prep.proofs.ComesBack.{comes-acts, comes-one, runs-same}
 use Rattle.sc_prep.proofs.ComesFrom.{comes-append, comes-more, comes-none}
 use Rattle.sc_prep.proofs.ComesPassed.{next-nowhere}
-use Rattle.sc_prep.proofs.Facts.{IsConfig-Keeps, and-false, and_parts, same_Some, take_more}
+use Rattle.sc_prep.proofs.Facts.{IsConfig-Keeps, and-false, and_parts, take_more}
 use Rattle.sc_prep.proofs.InFile.{idle-inert, runs-idle, top-is-in}
-use Rattle.sc_prep.proofs.Levels.{ends-acting}
+use Rattle.sc_prep.proofs.Levels.{closing-level, ends-acting}
 use Rattle.sc_prep.proofs.LinesApart.{one-line, seen-apart}
-use Rattle.sc_prep.proofs.Machine.{inert_plain, inert_takes}
+use Rattle.sc_prep.proofs.Machine.{branch-kept, end-kept, inert_plain, inert_takes}
+use Rattle.sc_prep.proofs.NthItems.{some-item}
 use Rattle.sc_prep.proofs.Passing.{one-more}
 use Rattle.sc_prep.proofs.PlainRuns.{in-more, unfaulty}
 use Rattle.sc_prep.proofs.SettledText.{text-empty}
-use Rattle.sc_prep.proofs.Terms.{AllByRecursion as Every, Alternative, Closed, ComesAt, ComesIn, ComesOver, Cond, Conditional, Context, Else, Endif, EndsAt, Entry, Extends, Fault, IsAtTop, IsConfig, IsIn, IsNever, Keeps, Leads, Line, Machine, Opening, Place, Runs, Sets, Simulates, StandApart, StandFor, Standard, State, Takes, Walk, acts, asks_by, closing_run, conditional_of, ended, has_none, is_empty, items_at, line_at, next_branch, no_line, seen_lines, start, step_by, within}
+pub use Rattle.sc_prep.proofs.SharesKept.{any-shares as shares-any}
+use Rattle.sc_prep.proofs.SharesKept.{Behind, puts-behind, shares-behind, shares-refl}
+use Rattle.sc_prep.proofs.Terms.{AllByRecursion as Every, Alternative, Closed, ComesAt, ComesIn, ComesOver, Conditional, Context, Else, Endif, EndsAt, Entry, Extends, Fault, IsAtTop, IsConfig, IsIn, IsNever, Keeps, Leads, Line, Machine, Opening, Place, Runs, Sets, Simulates, StandApart, StandFor, Standard, State, Takes, Walk, acts, any_machine, asks_by, closing_run, conditional_of, ended, has_none, is_empty, items_at, line_at, next_branch, no_line, seen_lines, start, step_by, within}
 use Rattle.sc_prep.specs.Simulates as simulates
 use Rattle.sc_prep.specs.Thin.{HaveOne, KeepsShares, KeepsSharesOf, Shares, WherePutOut, one_held, other_held, put, waits}
-
--- whichever machines they have
-pub shares-any : {files names more_files more : List (List ℕ)} {old new : Sets} {walk next : Walk} (from : Machine → Type 0) → KeepsShares files names old walk more_files more new next
-    → KeepsSharesOf from files names old walk more_files more new next
-shares-any from keeps = record {
-  longer = keeps.longer;
-  at = λ c d c_is d_is c_live d_live k l k_at l_at k_from l_from. keeps.at c d c_is d_is c_live d_live k l k_at l_at;
-}
 
 -- ---- a fault stays
 
@@ -44,21 +40,12 @@ faulty-quiet m (Some (Alternative test)) e = by m.sections
     by [] = ap (λ b. m.active && b) e ∙ and-false m.active
     by (s ∷ ss) = ap (λ b. s.1 && b) e ∙ and-false s.1
 
-turned-fault : (m : Machine) (test : Bool) (ss : List (Bool × Bool)) → (next_branch m test ss).fault ≡ m.fault
-turned-fault m test [] = refl
-turned-fault m true (s ∷ ss) = refl
-turned-fault m false (s ∷ ss) = refl
-
-ended-fault : (m : Machine) (ss : List (Bool × Bool)) → (ended m ss).fault ≡ m.fault
-ended-fault m [] = refl
-ended-fault m (s ∷ ss) = refl
-
 step-fault : (m : Machine) (l : Line) (c : Option Conditional) → acts m ≡ false → (step_by m l (Ok false) c).fault ≡ m.fault
 step-fault m l None e = ap (λ (k : Machine). k.fault) (inert_plain m l e)
 step-fault m l (Some (Opening test)) e = refl
-step-fault m l (Some (Alternative test)) e = turned-fault m false m.sections
-step-fault m l (Some Else) e = turned-fault m true m.sections
-step-fault m l (Some Endif) e = ended-fault m m.sections
+step-fault m l (Some (Alternative test)) e = (branch-kept m false m.sections).0
+step-fault m l (Some Else) e = (branch-kept m true m.sections).0
+step-fault m l (Some Endif) e = (end-kept m m.sections).0
 
 takes-fine : {x : Context} {m n : Machine} {l : Line} → Takes x m l n → is_none n.fault ≡ true → is_none m.fault ≡ true
 takes-fine {m = m} {n} {l} taking fine = by (is_none m.fault) refl
@@ -82,32 +69,11 @@ closing-fine m (Err fault) fine = by (acts m) fine
 closed-fine : {m n : Machine} → Closed m n → is_none n.fault ≡ true → is_none m.fault ≡ true
 closed-fine {m} closed fine = closing-fine m closed.answer (ap (λ (k : Machine). is_none k.fault) (sym closed.is) ∙ fine)
 
-closing-active : (m : Machine) (r : Result (List Token) Fault) → (closing_run m r).active ≡ m.active
-closing-active m (Ok output) = refl
-closing-active m (Err fault) = refl
-
 closed-acts : {m n : Machine} → Closed m n → acts m ≡ true → is_none n.fault ≡ true → acts n ≡ true
 closed-acts {m} {n} closed acting fine =
-    ap (λ a. a && is_none n.fault) (ap (λ (k : Machine). k.active) closed.is ∙ (closing-active m closed.answer ∙ (and_parts m.active (is_none m.fault) acting).0)) ∙ fine
+    ap (λ a. a && is_none n.fault) (ap (λ (k : Machine). k.active) closed.is ∙ (ap (λ p. p.0) (closing-level m closed.answer) ∙ (and_parts m.active (is_none m.fault) acting).0)) ∙ fine
 
 -- ---- where nothing waits
-
-none-empty : {A B C : Type 0} (f : B → C) (g : A → B) (xs : List A) → map f (map g xs) ≡ [] → xs ≡ []
-none-empty f g [] e = refl
-none-empty f g (x ∷ xs) e = absurd (cc)
-
-first-there : {T : Type 0} (b : Bool) (x : T) (xs : List T) → b ≡ true → (if b then x ∷ xs else xs) ≡ [] → ⊥
-first-there true x xs e none = cc
-first-there false x xs e none = cc
-
-rest-empty : {T : Type 0} (b : Bool) (x : T) (xs : List T) → (if b then x ∷ xs else xs) ≡ [] → xs ≡ []
-rest-empty true x xs e = absurd (cc)
-rest-empty false x xs e = e
-
-item-there : {T : Type 0} (s : Sets) (c : List ℕ) (list : List (Cond × T)) (at : ℕ) (item : Cond × T) → slice_get list at ≡ Some item → s.has item.0.0 c ≡ true → items_at s list c ≡ [] → ⊥
-item-there s c [] at item is has none = cc
-item-there s c (x ∷ xs) zero item is has none = first-there (s.has x.0.0 c) x.1 (items_at s xs c) (ap (λ (y : Cond × _). s.has y.0.0 c) (same_Some x item is) ∙ has) none
-item-there s c (x ∷ xs) (suc at) item is has none = item-there s c xs at item is has (rest-empty (s.has x.0.0 c) x.1 (items_at s xs c) none)
 
 -- A configuration's run ended: nothing of it is gathered or held.
 record IsQuiet (s : Sets) (w : Walk) (c : List ℕ) : Type 0 where
@@ -118,11 +84,11 @@ quiet-at : {s : Sets} {names files : List (List ℕ)} {w : Walk} {c : List ℕ} 
 quiet-at {s} {w = w} {c} {n} at fine ended =
     let text = (at.text (unfaulty n.fault fine)).text in
     let none = text-empty n.state _ _ _ _ ended text in
-    record { gathered = none-empty _ _ (items_at s w.runs.gathered c) none.0; held = ap is_empty (none-empty _ _ _ none.2) }
+    record { gathered = none-found _ (items_at s w.runs.gathered c) (none-found _ _ none.0); held = ap is_empty (none-found _ _ (none-found _ _ none.2)) }
 
 settled-one : {s : Sets} {names files : List (List ℕ)} {w : Walk} {c d : List ℕ} {index n m : ℕ} → IsQuiet s w c → IsQuiet s w d → Shares s names files w c d index n m → HaveOne s w.prepared.list c d n m
 settled-one one other (put shared) = shared
-settled-one {s} {w = w} {c} one other (waits at size span inside first second) = absurd (item-there s c w.runs.gathered at span.one.item span.one.is span.one.has one.gathered)
+settled-one {s} {w = w} {c} one other (waits at size span inside first second) = absurd (some-item s c w.runs.gathered at span.one.item span.one.is span.one.has one.gathered)
 settled-one one other (one_held is) = absurd (is one.held)
 settled-one one other (other_held is) = absurd (is other.held)
 
@@ -137,10 +103,7 @@ pub record SharesLines (x : Context) (entry : Entry) (standard : Standard) (toke
 -- before the first
 pub shares-none : {x : Context} {entry : Entry} {standard : Standard} {tokens : List base.Token} {s : Sets} {names files : List (List ℕ)} {w : Walk} → SharesLines x entry standard tokens 0 s names files w s names files w
 shares-none {w = w} = record {
-  shares = record {
-    longer = ([], sym (append-nil w.prepared.list));
-    at = λ c d c_is d_is c_live d_live k l k_at l_at k_from l_from index n m shared. shared;
-  };
+  shares = shares-refl;
   puts = λ apart c d c_is d_is c_live d_live k l k_at l_at k_from l_from chain line other s t f index n m c_comes d_comes c_puts d_puts. absurd (comes-none c_comes);
 }
 
@@ -166,32 +129,21 @@ module _ {a b : Sets} {names files mid mid_files : List (List ℕ)} {u v : Walk}
       (fine : (config : List ℕ) (m n : Machine) → later config m n → is_none n.fault ≡ true → is_none m.fault ≡ true) (leads_on : Leads mid_files mid b v more_files more z w between later)
       (shares : KeepsSharesOf between mid_files mid b v more_files more z w) (so_far : SharesLines x entry standard tokens number a names files u b mid mid_files v) where
     -- one that isn't refused later isn't yet
-    live-here : (c : List ℕ) (k : Machine) → Here c k → z.has w.prepared.live.0 c ≡ true → b.has v.prepared.live.0 c ≡ true
-    live-here c k was live =
-        let to = leads_on.at c was.machine was.listed was.at (inside was.machine was.inside) in
-        was.at.prepared.live ∙ fine c was.machine to.machine to.done (sym to.simulates.prepared.live ∙ live)
+    behind : (c : List ℕ) (k : Machine) → IsConfig a.arities c → Simulates a names files u c k → IsAtTop files entry k → z.has w.prepared.live.0 c ≡ true → Behind b mid mid_files v between c
+    behind c k listed at from live =
+        let was = here c k listed at from in
+        let so = inside was.machine was.inside in
+        let to = leads_on.at c was.machine was.listed was.at so in
+        let fault = fine c was.machine to.machine to.done (sym to.simulates.prepared.live ∙ live) in
+        record { machine = was.machine; simulates = was.at; live = was.at.prepared.live ∙ fault; is = so }
 
     pub shares-then : KeepsSharesOf (IsAtTop files entry) files names a u more_files more z w
-    shares-then = record {
-      longer =
-          let one = so_far.shares.longer in
-          let two = shares.longer in
-          (one.0 ++ two.0, two.1 ∙ (ap (λ ts. ts ++ two.0) one.1 ∙ append_assoc u.prepared.list one.0 two.0));
-      at = λ c d c_is d_is c_live d_live k l k_at l_at k_from l_from index n m shared.
-          let c_here = here c k c_is k_at k_from in
-          let d_here = here d l d_is l_at l_from in
-          shares.at c d c_here.listed d_here.listed c_live d_live c_here.machine d_here.machine c_here.at d_here.at (inside c_here.machine c_here.inside) (inside d_here.machine d_here.inside) index n m
-          (so_far.shares.at c d c_is d_is (live-here c k c_here c_live) (live-here d l d_here d_live) k l k_at l_at k_from l_from index n m shared);
-    }
+    shares-then = shares-behind keeps behind shares so_far.shares
 
     -- what was put out in the lines before
     pub puts-then : StandApart tokens
         → WherePutOut files names a u (IsAtTop files entry) (λ config m chain k. ComesIn x chain k m (take number file_seen)) z w (Shares z more more_files w)
-    puts-then apart = λ c d c_is d_is c_live d_live k l k_at l_at k_from l_from chain line other s t f index n m c_comes d_comes c_puts d_puts.
-        let c_here = here c k c_is k_at k_from in
-        let d_here = here d l d_is l_at l_from in
-        shares.at c d c_here.listed d_here.listed c_live d_live c_here.machine d_here.machine c_here.at d_here.at (inside c_here.machine c_here.inside) (inside d_here.machine d_here.inside) index n m
-        (so_far.puts apart c d c_is d_is (live-here c k c_here c_live) (live-here d l d_here d_live) k l k_at l_at k_from l_from chain line other s t f index n m c_comes d_comes c_puts d_puts)
+    puts-then apart = puts-behind keeps behind shares (λ config m chain k. ComesIn x chain k m (take number file_seen)) (so_far.puts apart)
 
   -- ---- one line more
 
@@ -256,10 +208,10 @@ module _ {a b : Sets} {names files mid mid_files : List (List ℕ)} {u v : Walk}
   -- ---- the end of the file
 
   module _ {z : Sets} {more : List (List ℕ)} {w : Walk} (all : take number file_seen ≡ file_seen) (lines : List declared.Line) (stand : StandFor file_seen lines)
-      (leads_on : Leads mid_files mid b v mid_files more z w (λ m. Unit {0}) (λ config m n. Closed m n)) (shares : KeepsShares mid_files mid b v mid_files more z w)
+      (leads_on : Leads mid_files mid b v mid_files more z w any_machine (λ config m n. Closed m n)) (shares : KeepsShares mid_files mid b v mid_files more z w)
       (so_far : SharesLines x entry standard tokens number a names files u b mid mid_files v) where
     pub shares-over : KeepsSharesOf (IsAtTop files entry) files names a u mid_files more z w
-    shares-over = shares-then (λ m. Unit {0}) (λ config m n. Closed m n) (λ m i. tt) (λ config m n closed fine. closed-fine closed fine) leads_on (shares-any (λ m. Unit {0}) shares) so_far
+    shares-over = shares-then any_machine (λ config m n. Closed m n) (λ m i. tt) (λ config m n closed fine. closed-fine closed fine) leads_on shares so_far
 
     -- a machine that comes to a line begins with the file
     begins-here : {k : Machine} {chain : List Place} {at : Line} {end : State} → IsAtTop files entry k → ComesIn x chain (at_line at end) k file_seen → (s : State) × (k ≡ start s)
@@ -289,7 +241,7 @@ module _ {a b : Sets} {names files mid mid_files : List (List ℕ)} {u v : Walk}
         let c_comes = over c_over in
         let d_comes = over d_over in
         settled-one (quiet-over c k c_here k_from c_comes c_live) (quiet-over d l d_here l_from d_comes d_live)
-        (puts-then (λ m. Unit {0}) (λ config m n. Closed m n) (λ m i. tt) (λ config m n closed fine. closed-fine closed fine) leads_on (shares-any (λ m. Unit {0}) shares) so_far apart
+        (puts-then any_machine (λ config m n. Closed m n) (λ m i. tt) (λ config m n closed fine. closed-fine closed fine) leads_on shares so_far apart
         c d c_is d_is c_live d_live k l k_at l_at k_from l_from chain line other s t f index n m
         (subst (λ ls. ComesIn x chain (at_line line s) k ls) (sym all) c_comes) (subst (λ ls. ComesIn x chain (at_line other t) l ls) (sym all) d_comes) c_puts d_puts)
       where

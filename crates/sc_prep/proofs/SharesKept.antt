@@ -1,75 +1,38 @@
 -- What configurations share they share as the stores grow and more is put out.
-use Rattle.std.proofs.Common.{◌≡◌, ◌⊎◌, inl, inr, ℕ, suc, ◌+◌, ◌-◌, ◌<◌, ◌≤◌, ltb, Bool, true, false, List, [], ◌∷◌, ◌++◌, All, drop, length, map, slice_get, take, unwrap_or, refl, sym, ap, subst, ◌∙◌, arith, if◌then◌else◌}
+use Rattle.std.proofs.Common.{◌≡◌, ◌⊎◌, inl, inr, ℕ, ◌+◌, ◌<◌, ◌≤◌, ltb, Bool, true, false, List, [], ◌∷◌, ◌++◌, All, append-nil, drop, length, map, take, unwrap_or, append_assoc, refl, sym, ap, subst, ◌∙◌, arith}
 use Rattle.std.proofs.lemmas.Bool.{le-ltb, lt-ltb}
 use Rattle.std.proofs.lemmas.List.{take-map}
-use Rattle.std.proofs.lemmas.Option.{slice_get-map, slice_get_past, slice_get_within}
+use Rattle.std.proofs.lemmas.Option.{slice_get-map, slice_get_past}
 use Rattle.c11_directives.specs.Pragmas.{is_pragma}
+use Rattle.c11_directives.specs.Reaches.{Moment}
 use Rattle.c11_macros.specs.Hidden as model
 use Rattle.c11_macros.specs.Runs.{Passes, Runs}
 use Rattle.sc_base.specs.declared.place.Place as base_place
 use Rattle.sc_base.specs.declared.token.Token as base
 use Rattle.sc_base.specs.declared.fault.Fault as base_fault
 use Rattle.sc_expand.proofs.AlikeLemmas.{AreAlike-Keeps}
-use Rattle.sc_expand.specs.Having.{behind_at}
 use Rattle.sc_expand.specs.Moved.{IsKept, moved}
 use Rattle.sc_expand.specs.Seen.{provenance_of}
-use Rattle.sc_expand.specs.Spans.{ComesAt, IsSpan, indexes_at}
+use Rattle.sc_expand.specs.Spans.{ComesAt, IsSpan}
 use Rattle.sc_expand.specs.Thin.{IsNth}
-use Rattle.sc_model.proofs.ListLemmas.{slice_get-front}
 use Rattle.sc_prep.proofs.Contents.{place-later}
-use Rattle.sc_prep.proofs.Facts.{All-at, All-drop, All-head, All-tail, All-take, cases_lt, faults_at-Keeps, items_at-Keeps, length-append, length-map, map-append}
+use Rattle.sc_prep.proofs.Facts.{All-at, All-drop, All-head, All-tail, All-take, Extends-refl, IsConfig-Keeps, cases_lt, faults_at-Keeps, items_at-Keeps, length-map, map-append, map-map, recursion_from_All}
+use Rattle.sc_prep.proofs.Grown.{faults-later}
+use Rattle.sc_prep.proofs.NthItems.{nth-front, nth-kept}
 use Rattle.sc_prep.proofs.PragmaMoves.{awaits-kept}
 use Rattle.sc_prep.proofs.RunsMoved.{moved_end, moved_uses, passes-moved, runs-moved}
-use Rattle.sc_prep.proofs.Terms.{Agree, AwaitsAt, Awaited, Cond, Extends, Hidden, IsCond, IsConfig, IsHeldHidden, IsStored, Keeps, Macros, Name, OpenRuns, OwnsPragmas, Sets, Token, Walk, awaits, faults_at, has_none, is_empty, items_at, macros_at, option_map, outside, seen_fault, seen_hidden, seen_place, text_at, token_of}
+use Rattle.sc_prep.proofs.Terms.{Agree, AwaitsAt, Awaited, Cond, Extends, Hidden, IsCond, IsConfig, IsHeldHidden, IsStored, Keeps, Machine, Macros, Name, OpenRuns, OwnsPragmas, Place, Sets, Simulates, Token, Walk, awaits, has_none, is_empty, items_at, macros_at, option_map, outside, seen_hidden, seen_place, text_at, token_of}
 use Rattle.sc_prep.proofs.Texts.{items_at-All}
 use Rattle.sc_prep.specs.Pragmas.{ArePragmasPlaced}
 use Rattle.sc_prep.specs.declared.pragmas.Pragmas.{Pragmas}
-use Rattle.sc_prep.specs.Thin.{ComesTo, Shares, WillPut, one_held, other_held, put, tokens_made, waits}
+use Rattle.sc_prep.specs.Thin.{AreSpan, ComesTo, KeepsShares, KeepsSharesOf, Shares, WherePutOut, WillPut, one_held, other_held, put, tokens_made, waits}
 use Rattle.sc_subst.proofs.Later.{hidden_later}
 use Rattle.sc_subst.specs.declared.hidden.Hidden as base_hidden
 
--- ---- the list grows
-
-module _ {old new : Sets} (keeps : Keeps old new) (c : List ℕ) (listed : IsConfig old.arities c) {T : Type 0} where
-  behind-later : (xs ys : List (Cond × T)) → All (λ (item : Cond × T). IsCond old item.0.0) xs
-      → behind_at new (xs ++ ys) c ≡ map (λ n. n + length ys) (behind_at old xs c) ++ behind_at new ys c
-  behind-later [] ys own = refl
-  behind-later (x ∷ xs) ys own =
-      let P : Cond × T → Type 0 = λ item. IsCond old item.0.0 in
-      ap (λ b. if b then length (xs ++ ys) ∷ behind_at new (xs ++ ys) c else behind_at new (xs ++ ys) c) (keeps.at x.0.0 c (All-head P x xs own) listed)
-      ∙ by (old.has x.0.0 c) (behind-later xs ys (All-tail P x xs own))
-    where
-      by : (b : Bool) → behind_at new (xs ++ ys) c ≡ map (λ n. n + length ys) (behind_at old xs c) ++ behind_at new ys c
-          → (if b then length (xs ++ ys) ∷ behind_at new (xs ++ ys) c else behind_at new (xs ++ ys) c)
-          ≡ map (λ n. n + length ys) (if b then length xs ∷ behind_at old xs c else behind_at old xs c) ++ behind_at new ys c
-      by true rest = λ i. length-append xs ys i ∷ rest i
-      by false rest = rest
-
-  module _ (xs ys : List (Cond × T)) where
-    abbrev far : ℕ → ℕ
-    far m = length (xs ++ ys) - suc m
-
-    abbrev near : ℕ → ℕ
-    near m = length xs - suc m
-
-    abbrev further : ℕ → ℕ
-    further m = m + length ys
-
-    nearer : (m : ℕ) → far (further m) ≡ near m
-    nearer m = let e = length-append xs ys in omega (arith, e)
-
-    all-nearer : (bs : List ℕ) → map far (map further bs) ≡ map near bs
-    all-nearer [] = refl
-    all-nearer (b ∷ bs) = λ j. nearer b j ∷ all-nearer bs j
-
-    -- it stays the n-th
-    pub nth-later : All (λ (item : Cond × T). IsCond old item.0.0) xs → (n i : ℕ) → IsNth old xs c n i → IsNth new (xs ++ ys) c n i
-    nth-later own n i is =
-        let bs = behind_at old xs c in
-        let split : indexes_at new (xs ++ ys) c ≡ map near bs ++ map far (behind_at new ys c) =
-        ap (map far) (behind-later xs ys own)
-        ∙ (map-append far (map further bs) (behind_at new ys c) ∙ ap (λ l. l ++ map far (behind_at new ys c)) (all-nearer bs)) in
-        ap (λ l. slice_get l n) split ∙ (slice_get-front (map near bs) (map far (behind_at new ys c)) n (slice_get_within (map near bs) n i is) ∙ is)
+-- it stays the n-th of a list that grows
+pub nth-later : {old new : Sets} (keeps : Keeps old new) (c : List ℕ) → IsConfig old.arities c → {T : Type 0} (xs ys : List (Cond × T)) → All (λ (item : Cond × T). IsCond old item.0.0) xs
+    → (n i : ℕ) → IsNth old xs c n i → IsNth new (xs ++ ys) c n i
+nth-later {new = new} keeps c listed xs ys own n i is = nth-front new c xs ys n i (nth-kept xs keeps own listed n i is)
 
 -- ---- a map of places to those that a longer table tells as the same
 
@@ -104,10 +67,8 @@ module _ (files more : List (List ℕ)) where
     places = map (moved later_place)
 
     tokens-kept : (ts : List (model.Hidden base_place.Place)) → tokens_made more (places ts) ≡ tokens_made files ts
-    tokens-kept [] = refl
-    tokens-kept (t ∷ ts) =
-        ap (λ p. record { kind = t.kind; spelling = t.spelling; space = t.space; place = p } ∷ tokens_made more (places ts)) (same-place t.place)
-        ∙ ap (λ us. token_of (moved (seen_place files) t) ∷ us) (tokens-kept ts)
+    tokens-kept ts =
+        ap (map token_of) (map-map (moved (seen_place more)) (moved later_place) ts ∙ (λ i. map (λ t. record (moved (seen_place files) t) { place = same-place t.place i }) ts))
 
     -- ---- what is gathered
 
@@ -204,21 +165,28 @@ module _ (files more : List (List ℕ)) where
 
 -- ---- what is shared
 
+module _ (old : Sets) (names files : List (List ℕ)) (walk : Walk) (new : Sets) (more more_files : List (List ℕ)) (next : Walk) where
+  -- what the configuration has put out stays, and a fault that held it holds it
+  pub record StaysPut (c : List ℕ) : Type 0 where
+    pub nth : (n i : ℕ) → IsNth old walk.prepared.list c n i → IsNth new next.prepared.list c n i
+    pub held : has_none new next.runs.held.items c ≡ true → has_none old walk.runs.held.items c ≡ true
+
+  -- what waited of both they share
+  abbrev pub SharesWaiting : (c d : List ℕ) (index n m : ℕ) → Type 0
+  SharesWaiting c d index n m =
+      (at size : ℕ) (span : AreSpan old names files walk at size c d) → at + size < length walk.runs.gathered
+      → WillPut old names files walk span.one index n → WillPut old names files walk span.other index m → Shares new more more_files next c d index n m
+
+  -- and what they shared
+  pub shares-moved : (c d : List ℕ) → StaysPut c → StaysPut d → (index n m : ℕ) → SharesWaiting c d index n m
+      → Shares old names files walk c d index n m → Shares new more more_files next c d index n m
+  shares-moved c d one other index n m waiting (put have) = put (have.0, one.nth n have.0 have.1, other.nth m have.0 have.2)
+  shares-moved c d one other index n m waiting (waits at size span below a b) = waiting at size span below a b
+  shares-moved c d one other index n m waiting (one_held held) = one_held (λ none. held (one.held none))
+  shares-moved c d one other index n m waiting (other_held held) = other_held (λ none. held (other.held none))
+
 module _ {files names more_files more : List (List ℕ)} {old new : Sets} (keeps : Keeps old new) (grows : Extends names more)
     (files_grow : Extends files more_files) where
-  faults-kept : (s : Sets) (fs : List base_fault.Fault) (c : List ℕ) → All (λ (f : base_fault.Fault). f.place.file.0 < length files) fs
-      → map (seen_fault more_files) (faults_at s fs c) ≡ map (seen_fault files) (faults_at s fs c)
-  faults-kept s [] c all = refl
-  faults-kept s (f ∷ fs) c all =
-      let F : base_fault.Fault → Type 0 = λ g. g.place.file.0 < length files in
-      by (s.has f.cond.0 c) (All-head F f fs all) (faults-kept s fs c (All-tail F f fs all))
-    where
-      by : (b : Bool) → f.place.file.0 < length files → map (seen_fault more_files) (faults_at s fs c) ≡ map (seen_fault files) (faults_at s fs c)
-          → map (seen_fault more_files) (if b then f ∷ faults_at s fs c else faults_at s fs c)
-          ≡ map (seen_fault files) (if b then f ∷ faults_at s fs c else faults_at s fs c)
-      by true there rest = λ i. record { cause = f.cause; place = place-later grows files_grow f.place there i } ∷ rest i
-      by false there rest = rest
-
   pub awaits-later : {p : Pragmas} {c : List ℕ} {a : Awaited} → OwnsPragmas old p → ArePragmasPlaced (length files) p → IsConfig old.arities c
       → AwaitsAt old files p c a → AwaitsAt new more_files p c a
   awaits-later {p} {c} owns placed listed at =
@@ -228,7 +196,7 @@ module _ {files names more_files more : List (List ℕ)} {old new : Sets} (keeps
         opening = kept.opening;
         text = kept.text;
         closing = kept.closing;
-        faults = faults-kept new p.faults.items c placed ∙ kept.faults;
+        faults = faults-later new files_grow p.faults.items c (recursion_from_All (λ (f : base_fault.Fault). f.place.file.0 < length files) p.faults.items placed) ∙ kept.faults;
       }
 
   module _ (walk next : Walk) {hides : List (List Name)} (stored : IsStored old names (length files) walk) (hides_grow : Extends walk.runs.sets hides)
@@ -273,23 +241,28 @@ module _ {files names more_files more : List (List ℕ)} {old new : Sets} (keeps
           number_is = w.number_is ∙ (λ i. sym long i + length (outside w.awaited (sym tokens i)));
         }
 
-    unheld-kept : (e : List ℕ) → IsConfig old.arities e → (has_none old walk.runs.held.items e ≡ true → ⊥) → has_none new walk.runs.held.items e ≡ true → ⊥
-    unheld-kept e listed held none = held (sym (ap is_empty (faults_at-Keeps walk.runs.held.items e keeps stored.owns.runs.held listed)) ∙ none)
+    -- who comes to something that is gathered defines the same
+    abbrev pub Defines : List ℕ → Type 0
+    Defines e = (at : ℕ) → ComesTo old names files walk at e → later e ≡ was e
 
-    grown-shares : (c d : List ℕ) → IsConfig old.arities c → IsConfig old.arities d → later c ≡ was c → later d ≡ was d
+    stays-put : (e : List ℕ) → IsConfig old.arities e → StaysPut old names files walk new more more_files grown e
+    stays-put e listed = record {
+      nth = nth-later keeps e listed walk.prepared.list behind stored.owns.prepared.list;
+      held = λ none. sym (ap is_empty (faults_at-Keeps walk.runs.held.items e keeps stored.owns.runs.held listed)) ∙ none;
+    }
+
+    grown-shares : (c d : List ℕ) → IsConfig old.arities c → IsConfig old.arities d → Defines c → Defines d
         → length (items_at new (walk.prepared.list ++ behind) c) ≡ length (items_at old walk.prepared.list c)
         → length (items_at new (walk.prepared.list ++ behind) d) ≡ length (items_at old walk.prepared.list d)
         → (index n m : ℕ) → Shares old names files walk c d index n m → Shares new more more_files grown c d index n m
-    grown-shares c d p q same same_d long long_d index n m (put one) =
-        put
-        (one.0, nth-later keeps c p walk.prepared.list behind stored.owns.prepared.list n one.0 one.1, nth-later keeps d q walk.prepared.list behind stored.owns.prepared.list m one.0 one.2)
-    grown-shares c d p q same same_d long long_d index n m (waits at size span within one other) =
+    grown-shares c d p q same same_d long long_d index n m =
+        shares-moved old names files walk new more more_files grown c d (stays-put c p) (stays-put d q) index n m
+        (λ at size span below one other.
+        let is = same at span.one in
+        let is_d = same_d at span.other in
         waits at size
-        (span-kept files more_files grows files_grow hides_grow keeps walk.runs.gathered stored.owns.runs.gathered stored.held.runs.gathered was later at size c d p q same same_d span)
-        within
-        (will-kept c p same long span.one index n one) (will-kept d q same_d long_d span.other index m other)
-    grown-shares c d p q same same_d long long_d index n m (one_held held) = one_held (unheld-kept c p held)
-    grown-shares c d p q same same_d long long_d index n m (other_held held) = other_held (unheld-kept d q held)
+        (span-kept files more_files grows files_grow hides_grow keeps walk.runs.gathered stored.owns.runs.gathered stored.held.runs.gathered was later at size
+        c d p q is is_d span) below (will-kept c p is long span.one index n one) (will-kept d q is_d long_d span.other index m other))
 
 -- The stores grow, and more is put out of which the two have nothing: they share what they shared.
 pub shares-kept : {files names more_files more : List (List ℕ)} {old new : Sets} → Keeps old new → Extends names more → Extends files more_files
@@ -300,9 +273,87 @@ pub shares-kept : {files names more_files more : List (List ℕ)} {old new : Set
     ≡ length (items_at old walk.prepared.list d)
     → (behind : List (Cond × base.Token)) → next.prepared.list ≡ walk.prepared.list ++ behind → (index n m : ℕ) → Shares old names files walk c d index n m
     → Shares new more more_files next c d index n m
-shares-kept {files} {names} {more_files} {more} {old} {new} keeps grows files_grow walk next stored hides_grow runs c d p q same same_d long long_d behind list index n m shares =
+shares-kept {more_files = more_files} {more} {new = new} keeps grows files_grow walk next stored hides_grow runs c d p q same same_d long long_d behind list index n m shares =
     subst
     (λ (p : OpenRuns × List (Cond × base.Token)). Shares new more more_files (record next { runs = p.0; prepared = record next.prepared { list = p.1 } }) c d index n m)
     (λ i. (sym runs i, sym list i))
-    (grown-shares keeps grows files_grow walk next stored hides_grow behind c d p q same same_d
+    (grown-shares keeps grows files_grow walk next stored hides_grow behind c d p q (λ _ _. same) (λ _ _. same_d)
     (ap (λ l. length (items_at new l c)) (sym list) ∙ long) (ap (λ l. length (items_at new l d)) (sym list) ∙ long_d) index n m shares)
+
+-- nothing is put out and the runs stay
+module _ {files names more_files more : List (List ℕ)} {old new : Sets} (keeps : Keeps old new) (grows : Extends names more)
+    (files_grow : Extends files more_files) (walk next : Walk) (stored : IsStored old names (length files) walk) (runs : next.runs ≡ walk.runs)
+    (list : next.prepared.list ≡ walk.prepared.list) where
+  abbrev pub KeepsMacros : List ℕ → Type 0
+  KeepsMacros = Defines keeps grows files_grow walk next stored (Extends-refl walk.runs.sets) []
+
+  pub shares-left : (c d : List ℕ) → IsConfig old.arities c → IsConfig old.arities d → KeepsMacros c → KeepsMacros d → (index n m : ℕ)
+      → Shares old names files walk c d index n m → Shares new more more_files next c d index n m
+  shares-left c d p q same same_d index n m shares =
+      subst
+      (λ (p : OpenRuns × List (Cond × base.Token)). Shares new more more_files (record next { runs = p.0; prepared = record next.prepared { list = p.1 } }) c d index n m)
+      (λ i. (sym runs i, sym longer i))
+      (grown-shares keeps grows files_grow walk next stored (Extends-refl walk.runs.sets) [] c d p q same same_d (long c p) (long d q) index n m shares)
+    where
+      longer : next.prepared.list ≡ walk.prepared.list ++ []
+      longer = list ∙ sym (append-nil walk.prepared.list)
+
+      long : (e : List ℕ) → IsConfig old.arities e → length (items_at new (walk.prepared.list ++ []) e) ≡ length (items_at old walk.prepared.list e)
+      long e listed =
+          ap (λ l. length (items_at new l e)) (append-nil walk.prepared.list)
+          ∙ ap length (items_at-Keeps walk.prepared.list e keeps stored.owns.prepared.list listed)
+
+  pub shares-stay : {from : Machine → Type 0}
+      → ((c : List ℕ) → IsConfig old.arities c → new.has next.prepared.live.0 c ≡ true → (k : Machine) → Simulates old names files walk c k → from k → KeepsMacros c)
+      → KeepsSharesOf from files names old walk more_files more new next
+  shares-stay same = record {
+    longer = ([], list ∙ sym (append-nil walk.prepared.list));
+    at = λ c d p q live live_d k l at at_d here here_d. shares-left c d p q (same c p live k at here) (same d q live_d l at_d here_d);
+  }
+
+-- ---- one stage behind the other
+
+pub any-shares : {files names more_files more : List (List ℕ)} {old new : Sets} {walk next : Walk} (from : Machine → Type 0)
+    → KeepsShares files names old walk more_files more new next → KeepsSharesOf from files names old walk more_files more new next
+any-shares from shares = record { longer = shares.longer; at = λ c d p q live live_d k l at at_d _ _. shares.at c d p q live live_d k l at at_d tt tt }
+
+-- the walk stays
+pub shares-refl : {from : Machine → Type 0} {s : Sets} {names files : List (List ℕ)} {w : Walk} → KeepsSharesOf from files names s w files names s w
+shares-refl {w = w} = record {
+  longer = ([], sym (append-nil w.prepared.list));
+  at = λ c d p q live live_d k l at at_d here here_d index n m shares. shares;
+}
+
+-- where a configuration's machine is behind the first stage: it isn't refused yet
+pub record Behind (s : Sets) (names files : List (List ℕ)) (walk : Walk) (is_so : Machine → Type 0) (c : List ℕ) : Type 0 where
+  pub machine : Machine
+  pub simulates : Simulates s names files walk c machine
+  pub live : s.has walk.prepared.live.0 c ≡ true
+  pub is : is_so machine
+
+module _ {old mid new : Sets} {files names mid_files more last_files last : List (List ℕ)} {w v next : Walk} {from between : Machine → Type 0}
+    (keeps : Keeps old mid)
+    (behind : (c : List ℕ) (k : Machine) → IsConfig old.arities c → Simulates old names files w c k → from k → new.has next.prepared.live.0 c ≡ true
+    → Behind mid more mid_files v between c)
+    (other : KeepsSharesOf between mid_files more mid v last_files last new next) where
+  pub shares-behind : KeepsSharesOf from files names old w mid_files more mid v → KeepsSharesOf from files names old w last_files last new next
+  shares-behind one = record {
+    longer = (
+      one.longer.0 ++ other.longer.0,
+      other.longer.1 ∙ (ap (λ l. l ++ other.longer.0) one.longer.1 ∙ append_assoc w.prepared.list one.longer.0 other.longer.0),
+    );
+    at = λ c d p q live live_d k l at at_d here here_d index n m shares.
+        let a = behind c k p at here live in
+        let b = behind d l q at_d here_d live_d in
+        other.at c d (IsConfig-Keeps keeps p) (IsConfig-Keeps keeps q) live live_d a.machine b.machine a.simulates b.simulates a.is b.is index n m
+        (one.at c d p q a.live b.live k l at at_d here here_d index n m shares);
+  }
+
+  -- and what was put out in the first
+  pub puts-behind : (comes : List ℕ → Machine → List Place → Moment → Type 0)
+      → WherePutOut files names old w from comes mid v (Shares mid more mid_files v) → WherePutOut files names old w from comes new next (Shares new last last_files next)
+  puts-behind comes puts = λ c d p q live live_d k l at at_d here here_d chain line away s t f index n m it it_d one two.
+      let a = behind c k p at here live in
+      let b = behind d l q at_d here_d live_d in
+      other.at c d (IsConfig-Keeps keeps p) (IsConfig-Keeps keeps q) live live_d a.machine b.machine a.simulates b.simulates a.is b.is index n m
+      (puts c d p q a.live b.live k l at at_d here here_d chain line away s t f index n m it it_d one two)

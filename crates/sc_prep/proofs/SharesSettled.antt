@@ -1,5 +1,5 @@
 -- What configurations have in common of what waits, as it settles.
-use Rattle.std.proofs.Common.{◌≡◌, ℕ, ◌+◌, ◌<◌, ◌&&◌, not, Bool, true, false, true≢false, List, [], ◌∷◌, ◌++◌, append_assoc, length, map, slice_get, take, Some, refl, sym, ap, subst, ◌∙◌, arith}
+use Rattle.std.proofs.Common.{◌≡◌, ℕ, ◌+◌, ◌<◌, ◌&&◌, not, Bool, true, false, true≢false, List, [], ◌++◌, append_assoc, length, map, slice_get, take, Some, refl, sym, ap, subst, ◌∙◌, arith}
 use Rattle.std.proofs.lemmas.List.{take-append-le, take-map}
 use Rattle.std.proofs.lemmas.Option.{same_Some, slice_get_within}
 use Rattle.c11_macros.specs.Hidden.{Hidden as HiddenToken}
@@ -13,21 +13,19 @@ use Rattle.sc_expand.specs.Spans.{InSegments, IsSettling}
 use Rattle.sc_expand.specs.Thin.{IsNth}
 use Rattle.sc_model.proofs.ListLemmas.{slice_get-front}
 use Rattle.sc_model.specs.Token.{Token}
-use Rattle.sc_prep.proofs.CloseMoves.{some-seen}
+use Rattle.sc_prep.proofs.CloseMoves.{both-empty, some-seen}
 use Rattle.sc_prep.proofs.Facts.{IsConfig-Keeps, Keeps-trans, faults_at-Keeps, faults_at-append, items-bared, items_at-Keeps}
-use Rattle.sc_prep.proofs.NthItems.{get-behind, get-map, nth-behind, nth-front, nth-kept, nth-mapped, nth-stands, stands-element, stands-get, take-behind}
+use Rattle.sc_prep.proofs.NthItems.{get-behind, get-map, nth-behind, nth-kept, nth-mapped, nth-stands, stands-element, stands-get}
 use Rattle.sc_prep.proofs.PragmaMoves.{awaits-kept}
 use Rattle.sc_prep.proofs.SegmentsBefore.{comes-all, span-one}
 use Rattle.sc_prep.proofs.SettleMoves.{with-sets}
+use Rattle.sc_prep.proofs.SharesKept.{SharesWaiting, StaysPut, nth-later, shares-moved}
 use Rattle.sc_prep.proofs.Terms.{Cond, Extends, IsAsked, IsConfig, IsStored, Keeps, KeepsSettled, Name, Sets, Settled, Walk, awaits, faults_at, has_none, is_empty, items_at, macros_at, outside, seen, seen_hidden, seen_place, token_of}
 use Rattle.sc_prep.specs.Pragmas.{first_tokens, is_outside}
 use Rattle.sc_prep.specs.Thin.{ComesTo, HaveOne, KeepsShares, Shares, WillPut, tokens_made}
 use Rattle.sc_prep.specs.Thin as thin
 use Rattle.sc_subst.specs.declared.hidden.Hidden as base_hidden
-
-empty-left : {A : Type 0} (xs ys : List A) → is_empty (xs ++ ys) ≡ true → (is_empty xs ≡ true) × (is_empty ys ≡ true)
-empty-left [] ys e = (refl, e)
-empty-left (x ∷ xs) ys e = absurd (true≢false (sym e))
+use Rattle.std.proofs.Math.Seq.{take-append-add}
 
 module _ (files : List (List ℕ)) {names more : List (List ℕ)} {old mid new : Sets} (keeps : Keeps old mid) (later : Keeps mid new) (grows : Extends names more) (w next : Walk) {hides : List (List Name)} (hides_grow : Extends w.runs.sets hides)
     (live asked : Cond) (s : Settled) (stored : IsStored old names (length files) w) (ask : IsAsked old w live.0 asked.0)
@@ -49,14 +47,10 @@ module _ (files : List (List ℕ)) {names more : List (List ℕ)} {old mid new :
     listed_then : IsConfig puts.middle.arities c
     listed_then = IsConfig-Keeps puts.until listed_mid
 
-    -- the list only grows
-    grown : (n i : ℕ) → IsNth old w.prepared.list c n i → IsNth new next.prepared.list c n i
-    grown n i at = subst (λ l. IsNth new l c n i) (sym puts.puts.is) (nth-front new c w.prepared.list puts.puts.kept n i (nth-kept w.prepared.list (Keeps-trans keeps later) stored.owns.prepared.list listed n i at))
-
     -- who has no fault now had none
     none-before : has_none new next.runs.held.items c ≡ true → (has_none old w.runs.held.items c ≡ true) × (has_none mid s.held.items c ≡ true)
     none-before free =
-        let both = empty-left (faults_at new w.runs.held.items c) (faults_at new s.held.items c) (ap is_empty (sym (faults_at-append new w.runs.held.items s.held.items c)) ∙ (ap (λ fs. has_none new fs c) (sym puts.held) ∙ free)) in (
+        let both = both-empty (faults_at new w.runs.held.items c) (faults_at new s.held.items c) (ap is_empty (sym (faults_at-append new w.runs.held.items s.held.items c)) ∙ (ap (λ fs. has_none new fs c) (sym puts.held) ∙ free)) in (
           ap is_empty (sym (faults_at-Keeps w.runs.held.items c (Keeps-trans keeps later) stored.owns.runs.held listed)) ∙ both.0,
           ap is_empty (sym (faults_at-Keeps s.held.items c later known.faults_own listed_mid)) ∙ both.1,
         )
@@ -65,6 +59,12 @@ module _ (files : List (List ℕ)) {names more : List (List ℕ)} {old mid new :
     is-asked same alive none =
         let lives : old.has w.prepared.live.0 c ≡ true = sym ((Keeps-trans keeps later).at w.prepared.live.0 c stored.owns.prepared.live listed) ∙ (ap (λ (u : Walk). new.has u.prepared.live.0 c) (sym puts.same) ∙ alive) in
         ap (λ n. old.has n c) same ∙ (ask.live.at c listed ∙ (λ i. lives i && none i))
+
+    still : StaysPut old names files w new more files next c
+    still = record {
+      nth = λ n i at. subst (λ l. IsNth new l c n i) (sym puts.puts.is) (nth-later (Keeps-trans keeps later) c listed w.prepared.list puts.puts.kept stored.owns.prepared.list n i at);
+      held = λ none. (none-before none).0;
+    }
 
     module _ (here : old.has asked.0 c ≡ true) (free : has_none mid s.held.items c ≡ true) where
       settling : Settling c
@@ -109,7 +109,7 @@ module _ (files : List (List ℕ)) {names more : List (List ℕ)} {old mid new :
             ∙ (take-map token_of number (map (moved (seen_place files)) ((x.before ++ x.done) ++ rest.0))
             ∙ ap (map token_of) (take-map (moved (seen_place files)) number ((x.before ++ x.done) ++ rest.0)
             ∙ ap (map (moved (seen_place files))) (ap (take number) whole
-            ∙ (take-behind x.before (x.done ++ rest.0) index ∙ ap (λ l. x.before ++ l) (take-append-le index x.done rest.0 (let less = within in omega (arith, less)))))))
+            ∙ (take-append-add x.before (x.done ++ rest.0) index ∙ ap (λ l. x.before ++ l) (take-append-le index x.done rest.0 (let less = within in omega (arith, less)))))))
 
         token-there : slice_get done_tokens number ≡ Some token
         token-there =
@@ -149,11 +149,8 @@ module _ (files : List (List ℕ)) {names more : List (List ℕ)} {old mid new :
         index one.made other.made one.stands other.stands in
         (length w.prepared.list + puts.puts.each.place it.0, put-one c listed here free at span.one index n one it.0 it.1, put-one d listed_too there free_too at span.other index m other it.0 it.2)
 
-    shares-then : asked.0 ≡ live.0 → new.has next.prepared.live.0 c ≡ true → new.has next.prepared.live.0 d ≡ true → Shares old names files w c d index n m → Now
-    shares-then same alive alive_too (thin.put one) = thin.put (one.0, grown c listed n one.0 one.1, grown d listed_too m one.0 one.2)
-    shares-then same alive alive_too (thin.one_held held) = thin.one_held (λ none. held (none-before c listed none).0)
-    shares-then same alive alive_too (thin.other_held held) = thin.other_held (λ none. held (none-before d listed_too none).0)
-    shares-then same alive alive_too (thin.waits at size span less one other) = by (has_none new next.runs.held.items c) (has_none new next.runs.held.items d) refl refl
+    shares-waiting : asked.0 ≡ live.0 → new.has next.prepared.live.0 c ≡ true → new.has next.prepared.live.0 d ≡ true → SharesWaiting old names files w new more files next c d index n m
+    shares-waiting same alive alive_too at size span less one other = by (has_none new next.runs.held.items c) (has_none new next.runs.held.items d) refl refl
       where
         by : (a b : Bool) → has_none new next.runs.held.items c ≡ a → has_none new next.runs.held.items d ≡ b → Now
         by false b e f = thin.one_held (λ none. true≢false (sym none ∙ e))
@@ -166,5 +163,6 @@ module _ (files : List (List ℕ)) {names more : List (List ℕ)} {old mid new :
   pub shares-settled : asked.0 ≡ live.0 → KeepsShares files names old w files more new next
   shares-settled same = record {
     longer = (puts.puts.kept, puts.puts.is);
-    at = λ c d listed listed_too alive alive_too k l one other index n m shares. shares-then c d listed listed_too index n m same alive alive_too shares;
+    at = λ c d listed listed_too alive alive_too k l one other _ _ index n m shares.
+        shares-moved old names files w new more files next c d (still c listed) (still d listed_too) index n m (shares-waiting c d listed listed_too index n m same alive alive_too) shares;
   }

@@ -1,5 +1,5 @@
 -- What configurations share of text that they gather.
-use Rattle.std.proofs.Common.{◌≡◌, ◌⊎◌, inl, inr, ℕ, ◌+◌, ◌<◌, ◌≤◌, ◌&&◌, Bool, true, false, List, [], ◌∷◌, ◌++◌, All, drop, length, map, slice_get, take, Option, Some, None, append-nil, append_assoc, refl, sym, ap, subst, ◌∙◌, arith, is_none, if◌then◌else◌}
+use Rattle.std.proofs.Common.{◌≡◌, ◌⊎◌, inl, inr, ℕ, ◌+◌, ◌<◌, ◌≤◌, true, List, [], ◌∷◌, ◌++◌, All, drop, length, map, slice_get, take, Option, Some, append-nil, append_assoc, refl, sym, ap, subst, ◌∙◌, arith, if◌then◌else◌}
 use Rattle.std.proofs.Math.Seq.{drop-append-add}
 use Rattle.std.proofs.lemmas.List.{drop-append-le, length-drop, take-append-le, take-map}
 use Rattle.c11_directives.specs.Footprints.{Spot, Used, definitions_of, footprint_at, source, token_itself}
@@ -18,11 +18,13 @@ use Rattle.sc_expand.specs.Seen.{provenance_of, seen_failure}
 use Rattle.sc_model.proofs.ListLemmas.{found_in, slice_get-front, slice_get-seam}
 use Rattle.sc_model.specs.Token as seen_token
 use Rattle.sc_model.specs.Token.{Place}
-use Rattle.sc_prep.proofs.ApartLemmas.{pairs-head, pairs-tail}
+use Rattle.sc_prep.proofs.ApartLemmas.{IsApart, pairs-head, pairs-tail}
+use Rattle.sc_prep.proofs.EnterMoves.{acts-unfaulty}
 use Rattle.sc_prep.proofs.Facts.{All-at, All-map, items_at-append, items_at-under, length-append, length-map, map-append, take_all, under}
+use Rattle.sc_prep.proofs.NameFootprints.{same-definitions as agree-by}
 use Rattle.sc_prep.proofs.PragmaMoves.{awaits-append, outside-append}
 use Rattle.sc_prep.proofs.RunsLonger.{runs-longer}
-use Rattle.sc_prep.proofs.Terms.{Agree, AreAlike, Awaited, AwaitsAt, Cond, Definition, Fault, HasText, IsAlike, Line, Machine, Macros, Sets, Simulates, StandApart, Standard, State, Token, Walk, acts, awaits, faults_at, has_none, held_at, hidden_at, is_empty, items_at, macros_at, no_operator, outside, place_alone, position_of, seen, seen_hidden, seen_line, seen_place, set_at, token_of, unhidden}
+use Rattle.sc_prep.proofs.Terms.{AreAlike, Awaited, AwaitsAt, Cond, Definition, Fault, HasText, IsAlike, Line, Machine, Macros, Sets, Simulates, StandApart, Standard, State, Token, Walk, acts, awaits, faults_at, has_none, held_at, hidden_at, is_empty, items_at, macros_at, no_operator, outside, place_alone, position_of, seen, seen_hidden, seen_line, seen_place, set_at, token_of, unhidden}
 use Rattle.sc_prep.proofs.TextPoints.{IsPoint, free-behind, is-point, told}
 use Rattle.sc_prep.proofs.Texts.{bare}
 use Rattle.sc_prep.proofs.WalkMoves.{read-walk}
@@ -129,12 +131,6 @@ record IsSplit {A B : Type 0} (f : A → B) (list : List A) (before : List B) (o
   item_is : f item ≡ one
   rest_is : map f rest ≡ behind
 
-behind-first : {A B : Type 0} (f : A → B) (x : A) (xs : List A) (b : B) (bs : List B) (one : B) (behind : List B) → f x ≡ b → IsSplit f xs bs one behind
-    → IsSplit f (x ∷ xs) (b ∷ bs) one behind
-behind-first f x xs b bs one behind first s =
-    record
-    { front = x ∷ s.front; item = s.item; rest = s.rest; is = ap (λ l. x ∷ l) s.is; front_is = λ i. first i ∷ s.front_is i; item_is = s.item_is; rest_is = s.rest_is }
-
 split-at : {A B : Type 0} (f : A → B) (list : List A) (before : List B) (one : B) (behind : List B) → map f list ≡ before ++ one ∷ behind
     → IsSplit f list before one behind
 split-at f [] [] one behind is = absurd (cc)
@@ -143,10 +139,8 @@ split-at f (x ∷ xs) [] one behind is = record { front = []; item = x; rest = x
 split-at f (x ∷ xs) (b ∷ bs) one behind is =
     let tail : map f xs ≡ bs ++ one ∷ behind = cc in
     let first : f x ≡ b = cc in
-    behind-first f x xs b bs one behind first (split-at f xs bs one behind tail)
-
-abbrev Apart : Token → Token → Type 0
-Apart t u = position_of t.place ≡ position_of u.place → ⊥
+    let s = split-at f xs bs one behind tail in
+    record { front = x ∷ s.front; item = s.item; rest = s.rest; is = ap (λ l. x ∷ l) s.is; front_is = λ i. first i ∷ s.front_is i; item_is = s.item_is; rest_is = s.rest_is }
 
 -- tokens that stand apart have one of a position
 same-split : (front rest : List Token) (t : Token) (first left : List Token) (u : Token) → StandApart (front ++ t ∷ rest)
@@ -156,29 +150,19 @@ same-split [] rest t [] left u apart is same = (refl, cc, cc)
 same-split [] rest t (x ∷ first) left u apart is same =
     let tail : rest ≡ first ++ u ∷ left = cc in
     absurd
-    (All-at (Apart t) (first ++ u ∷ left) (length first) u (slice_get-seam first u left) (subst (All (Apart t)) tail (pairs-head Apart t rest apart)) same)
+    (All-at (IsApart t) (first ++ u ∷ left) (length first) u (slice_get-seam first u left) (subst (All (IsApart t)) tail (pairs-head IsApart t rest apart)) same)
 same-split (x ∷ front) rest t [] left u apart is same =
     let head : x ≡ u = cc in
     absurd
-    (All-at (Apart x) (front ++ t ∷ rest) (length front) t (slice_get-seam front t rest) (pairs-head Apart x (front ++ t ∷ rest) apart) (ap (λ (v : Token). position_of v.place) head ∙ sym same))
+    (All-at (IsApart x) (front ++ t ∷ rest) (length front) t (slice_get-seam front t rest) (pairs-head IsApart x (front ++ t ∷ rest) apart) (ap (λ (v : Token). position_of v.place) head ∙ sym same))
 same-split (x ∷ front) rest t (y ∷ first) left u apart is same =
     let head : x ≡ y = cc in
     let tail : front ++ t ∷ rest ≡ first ++ u ∷ left = cc in
-    let more = same-split front rest t first left u (pairs-tail Apart x (front ++ t ∷ rest) apart) tail same in
+    let more = same-split front rest t first left u (pairs-tail IsApart x (front ++ t ∷ rest) apart) tail same in
     ((λ i. head i ∷ more.0 i), more.1, more.2)
 
 same-definitions : (us vs : List seen_token.Token) {ps qs : List (List ℕ × Option Definition)} → source us ps ≡ source vs qs → ps ≡ qs
 same-definitions us vs is = cc
-
--- names with the same definitions are defined alike
-defined-alike : (one two : Macros) (xs ys : List (List ℕ)) → definitions_of one xs ≡ definitions_of two ys → Agree one two xs
-defined-alike one two [] ys is = tt
-defined-alike one two (x ∷ xs) [] is = absurd (cc)
-defined-alike one two (x ∷ xs) (y ∷ ys) is =
-    let head : ◌≡◌ {A = List ℕ × Option Definition} (x, one x) (y, two y) = cc in
-    let tail : definitions_of one xs ≡ definitions_of two ys = cc in
-    let name : x ≡ y = ap (λ (p : List ℕ × Option Definition). p.0) head in
-    (ap (λ (p : List ℕ × Option Definition). p.1) head ∙ ap two (sym name), defined-alike one two xs ys tail)
 
 module _ (s : Sets) (names files : List (List ℕ)) (walk next : Walk) (hide : Hide) (none : set_at walk.runs.sets hide.0 ≡ []) (front : List Token)
     (token : Token) (rest : List Token) where
@@ -225,9 +209,6 @@ module _ (s : Sets) (names files : List (List ℕ)) (walk next : Walk) (hide : H
     abbrev here : List (Cond × base_hidden.Hidden) → List (model.Hidden base_place.Place)
     here items = map look (items_at s items c)
 
-    here-append : (xs ys : List (Cond × base_hidden.Hidden)) → here (xs ++ ys) ≡ here xs ++ here ys
-    here-append xs ys = ap (map look) (items_at-append s xs ys c) ∙ map-append look (items_at s xs c) (items_at s ys c)
-
     here-line : (ts : List Token) → here (of_line ts) ≡ bares ts
     here-line ts = ap (map look) (items_at-under s walk.acting (map (bare hide) ts) c ∙ ap (λ b. if b then map (bare hide) ts else []) acting)
 
@@ -236,7 +217,7 @@ module _ (s : Sets) (names files : List (List ℕ)) (walk next : Walk) (hide : H
 
     here-all : here gathers ≡ here ahead ++ look (bare hide token) ∷ bares rest
     here-all =
-        here-append ahead ((walk.acting, bare hide token) ∷ of_line rest)
+        its-append s names files walk next [] ahead ((walk.acting, bare hide token) ∷ of_line rest) c
         ∙ ap (λ l. here ahead ++ l)
         (ap (λ b. map look (if b then bare hide token ∷ items_at s (of_line rest) c else items_at s (of_line rest) c)) acting ∙ ap (λ l. look (bare hide token) ∷ l) (here-line rest))
 
@@ -249,7 +230,7 @@ module _ (s : Sets) (names files : List (List ℕ)) (walk next : Walk) (hide : H
           (awaits_is : awaited ≡ awaits no_operator (map token_of out)) where
         text-told : told files (here ahead) ≡ left ++ map unhidden (new ++ p.before)
         text-told =
-            ap (told files) (here-append walk.runs.gathered (of_line front) ∙ ap (λ l. here walk.runs.gathered ++ l) (here-line front))
+            ap (told files) (its-append s names files walk next [] walk.runs.gathered (of_line front) c ∙ ap (λ l. here walk.runs.gathered ++ l) (here-line front))
             ∙ (map-append (moved (seen_place files)) (here walk.runs.gathered) (bares front)
             ∙ ((λ i. gathered i ++ (bares-told front ∙ ap (map unhidden) front_is) i)
             ∙ (append_assoc left (map unhidden new) (map unhidden p.before) ∙ ap (λ l. left ++ l) (sym (map-append unhidden new p.before)))))
@@ -354,11 +335,6 @@ module _ (s : Sets) (names files : List (List ℕ)) (walk next : Walk) (hide : H
 -- configurations that take a line share what they put out of it
 module _ (standard : Standard) (s : Sets) (names files : List (List ℕ)) (walk : Walk) (hide : Hide) (none : set_at walk.runs.sets hide.0 ≡ [])
     (tokens : List Token) where
-  acts-none : (active : Bool) (fault : Option Fault) → (active && is_none fault) ≡ true → fault ≡ None
-  acts-none active None is = refl
-  acts-none true (Some fault) is = absurd (cc)
-  acts-none false (Some fault) is = absurd (cc)
-
   module _ (front rest : List Token) (token : Token) where
     abbrev Point : List ℕ → Spot × Used → ℕ → ℕ → Type 0
     Point = TextAt s names files walk (read-walk walk hide tokens) hide none front token rest
@@ -369,7 +345,7 @@ module _ (standard : Standard) (s : Sets) (names files : List (List ℕ)) (walk 
         → map (seen names files) front ≡ p.before → seen names files token ≡ p.token → map (seen names files) rest ≡ p.behind
         → Point c f index n ⊎ (has_none s walk.runs.held.items c ≡ true → ⊥)
     text-point c k at acts f index n p front_is token_is rest_is =
-        let unrefused = acts-none k.active k.fault acts in
+        let unrefused = acts-unfaulty k acts in
         let run = at.text unrefused in
         text-at s names files walk (read-walk walk hide tokens) hide none front token rest c (at.acting ∙ acts) k.state (λ i name. at.macros unrefused name i)
         (seen_line standard names files tokens) f index n p front_is token_is rest_is
@@ -395,7 +371,7 @@ module _ (standard : Standard) (s : Sets) (names files : List (List ℕ)) (walk 
               (All-map (λ (item : Cond × base_hidden.Hidden). IsAlike s c d item.0) (λ t. (walk.acting, t)) (map (bare hide) rest) (λ k e h. acts_c ∙ sym acts_d));
           one_within = subst (λ l. length x.comes.uses.taken ≤ length (items_at s l c)) (sym next) x.few;
           other_within = subst (λ l. length y.comes.uses.taken ≤ length (items_at s l d)) (sym next) y.few;
-          agree = defined-alike (macros_at s names walk.table c) (macros_at s names walk.table d) x.comes.uses.looked_up y.comes.uses.looked_up
+          agree = agree-by (macros_at s names walk.table c) (macros_at s names walk.table d) x.comes.uses.looked_up y.comes.uses.looked_up
               (same-definitions x.tokens y.tokens (sym x.used ∙ y.used));
         }
       where
@@ -450,6 +426,6 @@ pub put-shares : (s : Sets) (names files : List (List ℕ)) (walk : Walk) (hide 
     → KeepsShares files names s walk files names s (read-walk walk hide tokens)
 put-shares s names files walk hide tokens = record {
   longer = ([], sym (append-nil walk.prepared.list));
-  at = λ c d listed listed_d live live_d k l at at_d index n m shares. longer-shares s names files walk (read-walk walk hide tokens)
+  at = λ c d listed listed_d live live_d k l at at_d _ _ index n m shares. longer-shares s names files walk (read-walk walk hide tokens)
       (under walk.acting (map (bare hide) tokens)) c d index n m shares;
 }

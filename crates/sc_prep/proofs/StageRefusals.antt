@@ -1,5 +1,5 @@
 -- A stage of the walk that refuses the configurations of its faults.
-use Rattle.std.proofs.Common.{◌≡◌, ℕ, ◌<◌, ◌&&◌, Bool, true, false, List, [], ◌∷◌, ◌++◌, All, map, length, Option, Some, None, append-nil, refl, sym, ap, subst, ◌∙◌, is_none, is_some}
+use Rattle.std.proofs.Common.{◌≡◌, ℕ, ◌<◌, ◌&&◌, Bool, true, false, true≢false, List, [], ◌∷◌, ◌++◌, All, map, length, Option, Some, None, append-nil, refl, sym, ap, subst, ◌∙◌, is_none, is_some}
 use Rattle.sc_base.specs.declared.fault.Fault as base
 use Rattle.sc_prep.proofs.Grown.{held-later, simulates-later}
 use Rattle.sc_prep.proofs.Facts.{All-append, Extends-refl, IsConfig-Keeps, IsTable-Keeps, faults_at-Keeps, faults_at-append, map-append}
@@ -20,6 +20,15 @@ pub record FaultsAt (s : Sets) (files : List (List ℕ)) (faults : List base.Fau
   pub told : map (seen_fault files) (faults_at s faults c) ≡ option_to_list fault
   pub fresh : is_some fault ≡ true → m.fault ≡ None
   pub done : does (with_fault m fault)
+
+-- without a fault, and with one of a configuration that had none
+pub no-fault : {s : Sets} {files : List (List ℕ)} {faults : List base.Fault} {c : List ℕ} {m : Machine} {does : Machine → Type 0}
+    → map (seen_fault files) (faults_at s faults c) ≡ [] → does (with_fault m None) → FaultsAt s files faults c m does
+no-fault told done = record { fault = None; told = told; fresh = λ some. absurd (true≢false (sym some)); done = done }
+
+pub one-fault : {s : Sets} {files : List (List ℕ)} {faults : List base.Fault} {c : List ℕ} {m : Machine} {does : Machine → Type 0} (fault : Fault)
+    → map (seen_fault files) (faults_at s faults c) ≡ fault ∷ [] → m.fault ≡ None → does (with_fault m (Some fault)) → FaultsAt s files faults c m does
+one-fault fault told clean done = record { fault = Some fault; told = told; fresh = λ _. clean; done = done }
 
 none-told : {F : Type 0} (f : base.Fault → F) (xs : List base.Fault) (o : Option F) → map f xs ≡ option_to_list o → is_empty xs ≡ is_none o
 none-told f [] None e = refl

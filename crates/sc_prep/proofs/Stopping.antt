@@ -1,7 +1,6 @@
 -- Walks that stop because one place has too many footprints.
-use Rattle.std.proofs.Common.{◌≡◌, ℕ, List, [], ◌∷◌, get_or, Result, Ok, Err, sym, subst}
+use Rattle.std.proofs.Common.{◌≡◌, ℕ, List, [], ◌∷◌, get_or, Result, Ok, Err, subst}
 use Rattle.std.specs.Prelude.{IfErr}
-use Rattle.sc_prep.proofs.Facts.{IfErr-weaker}
 use Rattle.sc_prep.proofs.Terms.{BranchesFull, HasFootprints, IsConfig, Moment, MomentsHave, Origin, OutOfMemory, Place, ReadFault, ReadsNothing, SourceFootprint, Spot, Stop, StopsAmong, StopsAtPlace}
 
 -- where each configuration that has a footprint has it in another sense too, at a place that
@@ -54,10 +53,6 @@ included_at place at = record at { chain = place ∷ at.chain }
 -- what is had at a moment is had at the same one in another sense
 pub moments-as : {P Q : List Place → Moment → Type 0} {f : SourceFootprint} → ((k : Moment) → P f.0.chain k → Q f.0.chain k) → MomentsHave P f → MomentsHave Q f
 moments-as to h = record { moment = h.moment; comes = to h.moment h.comes; has = h.has }
-
--- no memory is left
-pub memory-stops-nowhere : {A K V : Type 0} (arities : List ℕ) (P : List ℕ → K × V → Type 0) (limit : ℕ) (r : Result A Stop) → IfErr r (λ s. s ≡ OutOfMemory) → IfErr r (StopsAtPlace arities P limit)
-memory-stops-nowhere arities P limit r memory = IfErr-weaker r (λ s. s ≡ OutOfMemory) (StopsAtPlace arities P limit) (λ s is. subst (StopsAtPlace arities P limit) (sym is) tt) memory
 
 -- nor could a file be read
 pub reading-stops-nowhere : {K V : Type 0} (arities : List ℕ) (P : List ℕ → K × V → Type 0) (limit old new : ℕ) (stop : Stop) → ReadsNothing old new stop → StopsAtPlace arities P limit stop

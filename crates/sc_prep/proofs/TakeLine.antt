@@ -1,15 +1,11 @@
 -- What a line does at each configuration, once the runs that it ends are closed.
-use Rattle.std.proofs.Common.{◌≡◌, ℕ, Bool, true, false, List, All, length, Option, Some, None, Result, Ok, refl, sym, ap, ◌∙◌, subst, if◌then◌else◌, IfErr}
+use Rattle.std.proofs.Common.{◌≡◌, ℕ, Bool, true, false, List, All, length, Option, Some, None, Ok, refl, sym, ap, ◌∙◌, subst, if◌then◌else◌}
 use Rattle.c11_directives.specs.declared.directive.Directive.TheVariants as directive
 use Rattle.sc_prep.proofs.BetweenRuns.{closing-between}
-use Rattle.sc_prep.proofs.Facts.{IfErr-weaker, IsConfig-Keeps, directive-files}
+use Rattle.sc_prep.proofs.Facts.{IsConfig-Keeps, directive-files}
 use Rattle.sc_prep.proofs.Grown.{placed-grown}
 use Rattle.sc_prep.proofs.LineSteps.{directive-grown, line-grown, plain-is}
-use Rattle.sc_prep.proofs.Terms.{AllPass, Carried, Closed, Conditional, Context, Decided, Directive, Extends, GathersFrom, IsBetweenRuns, IsHeld, IsHeldWalk, IsPlaced, IsStored, IsTable, Keeps, LineStage, Machine, OutOfMemory, Sets, Simulates, SimulatesOneOf, SimulatesStep, Standard, StaysHeld, StepsBetweenRuns, Stop, StopsBy, Takes, Token, Walk, any_token, asks_by, carries, closes, conditional_in, directive_at, ends_run, is_barrier, is_plain, is_said, option_map, plain_by, seen_line, step, step_by, takes}
-
--- no memory is a reason to stop
-pub memory-stops : {A : Type 0} (arities : List ℕ) (limit : ℕ) (r : Result A Stop) → IfErr r (λ s. s ≡ OutOfMemory) → IfErr r (StopsBy arities limit)
-memory-stops arities limit r memory = IfErr-weaker r (λ s. s ≡ OutOfMemory) (StopsBy arities limit) (λ s is. subst (StopsBy arities limit) (sym is) tt) memory
+use Rattle.sc_prep.proofs.Terms.{AllPass, Carried, Closed, Conditional, Context, Decided, Directive, Extends, GathersFrom, IsBetweenRuns, IsHeld, IsHeldWalk, IsPlaced, IsStored, IsTable, Keeps, LineStage, Machine, Sets, Simulates, SimulatesOneOf, SimulatesStep, Standard, StaysHeld, StepsBetweenRuns, Takes, Token, Walk, any_token, asks_by, carries, closes, conditional_in, directive_at, ends_run, is_barrier, is_plain, is_said, option_map, plain_by, seen_line, step, step_by, takes}
 
 -- the tables hold the walk, and what was put out passes another test
 pub with-test : (names : List (List ℕ)) (files : ℕ) (test other : Token → Bool) (w : Walk) → IsHeldWalk names files test w → AllPass other w.prepared.list → IsHeldWalk names files other w
@@ -20,7 +16,7 @@ pub stays-plain : (names : List (List ℕ)) (files : ℕ) (line : List Token) (w
     → AllPass (is_plain names) w.prepared.list → AllPass (is_plain names) next.prepared.list
 stays-plain names files line w next stays placed held passed = (stays files (is_plain names) placed (with-test names files any_token (is_plain names) w held passed)).passed
 
-directive-is : (standard : Standard) (names files : List (List ℕ)) (line : List Token) (d : Option Directive) → d ≡ directive_at standard names line → (seen_line standard names files line).directive ≡ d
+pub directive-is : (standard : Standard) (names files : List (List ℕ)) (line : List Token) (d : Option Directive) → d ≡ directive_at standard names line → (seen_line standard names files line).directive ≡ d
 directive-is standard names files line d at = directive-files standard names files line ∙ sym at
 
 -- a conditional directive that decides nothing here

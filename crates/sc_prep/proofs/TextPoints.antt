@@ -1,5 +1,5 @@
 -- A text that is gathered comes to a token as the text itself does.
-use Rattle.std.proofs.Common.{◌≡◌, ℕ, List, [], ◌∷◌, ◌++◌, map, Option, Some, None, Result, Ok, Err, refl, sym, ap, subst}
+use Rattle.std.proofs.Common.{◌≡◌, ℕ, List, [], ◌∷◌, ◌++◌, map, Result, Ok, Err, refl, sym, ap, subst}
 use Rattle.c11_directives.proofs.PragmaLaws.{pragmas-sole}
 use Rattle.c11_directives.specs.Pragmas.{CarriesOutPragmas}
 use Rattle.c11_macros.proofs.Halting.{halts}
@@ -12,12 +12,12 @@ use Rattle.c11_macros.specs.Hidden as model
 use Rattle.c11_macros.specs.Runs.{End, Passes, Runs, Settles, SettlesTo, Uses, fails, over, waits, whole, open_end}
 use Rattle.sc_base.specs.declared.place.Place as base_place
 use Rattle.sc_expand.proofs.SettledPlaces.{held-moved, settles-moved}
+use Rattle.sc_expand.proofs.TakingParts.{none-found}
 use Rattle.sc_expand.proofs.TextLemmas.{places-kept}
 use Rattle.sc_expand.specs.Moved.{moved, moved_failure}
 use Rattle.sc_expand.specs.Seen.{provenance_of}
-use Rattle.sc_model.specs.Fault.{Fault}
 use Rattle.sc_model.specs.Token.{Place, Token}
-use Rattle.sc_prep.proofs.PragmaLaws.{carries-out}
+use Rattle.sc_prep.proofs.PragmaLaws.{carried, carries-out}
 use Rattle.sc_prep.proofs.RunsMoved.{moved_end, moved_uses, runs-moved}
 use Rattle.sc_prep.specs.Pragmas as awaiting
 use Rattle.sc_prep.specs.Pragmas.{closing, nothing, opening}
@@ -57,10 +57,6 @@ module _ (files : List (List ℕ)) where
   both-same : (a b c d : List Seen) → ◌≡◌ {A = Way} (Ok (a, c)) (Ok (b, d)) → (a ≡ b) × (c ≡ d)
   both-same a b c d is = let pair : (a, c) ≡ (b, d) = cc in (ap (λ (p : List Seen × List Seen). p.0) pair, ap (λ (p : List Seen × List Seen). p.1) pair)
 
-  none-told : (ts : List Base) → told ts ≡ [] → ts ≡ []
-  none-told [] is = refl
-  none-told (t ∷ ts) is = absurd (cc)
-
   module _ (macros : Macros) (names : List (List ℕ)) (within : IsWithin names macros) (begun more first left out : List Seen) (text : List Base)
       (was : Settles place_alone macros begun first left) (is : told text ≡ left ++ more) (all : Settles place_alone macros (begun ++ more) out []) where
     abbrev Passed : Type 0
@@ -73,7 +69,7 @@ module _ (files : List (List ℕ)) where
         one-settled place_alone macros (begun ++ more) (Ok (out, [])) (Ok (first ++ told done, told rest)) all
         (settle-again place_alone macros begun more was now) in
         let pair = both-same out (first ++ told done) [] (told rest) both in
-        (none-told rest (sym pair.1), pair.0)
+        (none-found (moved (seen_place files)) rest (sym pair.1), pair.0)
 
     passed : (r : Result (List Base × List Base) (model.Failure base_place.Place)) → SettlesTo (provenance_of files) macros text r → Passed
     passed (Ok settled) d = by settled.0 settled.1 d (all-passed settled.0 settled.1 d)
@@ -113,16 +109,12 @@ module _ (files : List (List ℕ)) where
 
 -- ---- what stands outside of operators
 
-abbrev carried_by : List Token → Option Fault → Result (List Token) Fault
-carried_by ts None = Ok ts
-carried_by ts (Some fault) = Err fault
-
 -- no operator is being read behind tokens whose operators are carried out
 pub free-behind : (ts earlier : List Token) → CarriesOutPragmas ts (Ok earlier) → (awaits no_operator ts ≡ no_operator) × (earlier ≡ outside no_operator ts)
 free-behind ts earlier d =
-    by (awaits no_operator ts) (pragmas-sole d (carried_by (outside no_operator ts) (fault_awaiting (awaits no_operator ts))) (carries-out ts))
+    by (awaits no_operator ts) (pragmas-sole d (carried (outside no_operator ts) (fault_awaiting (awaits no_operator ts))) (carries-out ts))
   where
-    by : (a : Awaited) → Ok earlier ≡ carried_by (outside no_operator ts) (fault_awaiting a) → (a ≡ no_operator) × (earlier ≡ outside no_operator ts)
+    by : (a : Awaited) → Ok earlier ≡ carried (outside no_operator ts) (fault_awaiting a) → (a ≡ no_operator) × (earlier ≡ outside no_operator ts)
     by no_operator is = (refl, cc)
     by (opening p) is = absurd (cc)
     by (awaiting.text p) is = absurd (cc)

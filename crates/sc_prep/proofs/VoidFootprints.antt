@@ -2,7 +2,7 @@
 -- footprint, so another one is made for each.
 use Rattle.std.proofs.Common.{◌≡◌, ℕ, ◌+◌, ◌<◌, ◌&&◌, not, Bool, true, false, List, [], ◌∷◌, All, length, replicate, Option, None, get_or, refl, sym, ap, ◌∙◌, arith, cond, AllPairs}
 use Rattle.sc_prep.proofs.ApartLemmas.{pairs-head, pairs-tail}
-use Rattle.sc_prep.proofs.Facts.{All-cons, All-head, All-nil, All-tail, AllPairs-cons, AllPairs-filter, and_from, length-replicate, true≢false}
+use Rattle.sc_prep.proofs.Facts.{All-cons, All-head, All-nil, All-tail, AllPairs-cons, AllPairs-filter, and_from, length-replicate, not-true, true≢false}
 use Rattle.sc_prep.proofs.Terms.{Definition, HasFootprints, HaveLists, IsConfig, Used, filter, looked_up_in, source}
 
 -- how many definitions these footprints have in all
@@ -32,10 +32,6 @@ parts-long {A} p (x ∷ xs) = by (p x) (filter (λ x. not (p x)) xs) (filter p x
     by : (b : Bool) (us vs : List A) → length us + length vs ≡ length xs → length (cond (not b) (x ∷ us) us) + length (cond b (x ∷ vs) vs) ≡ length (x ∷ xs)
     by true us vs e = omega (arith, e)
     by false us vs e = omega (arith, e)
-
-not-true : (b : Bool) → not b ≡ true → b ≡ false
-not-true true e = absurd (cc)
-not-true false e = refl
 
 module _ {K : Type 0} (arities : List ℕ) (has : List ℕ → K × Used → Type 0) (live : List ℕ → Bool) where
   -- the footprints, with one for each of more configurations, but for no further one that is not

@@ -2,8 +2,9 @@
 use Rattle.std.proofs.Common.{◌≡◌, ℕ, ◌&&◌, not, Bool, true, false, List, [], ◌∷◌, ◌++◌, map, reverse, Option, Some, None, Vec, Global, append-nil, refl, sym, ap, ◌∙◌, subst, All, is_none, if◌then◌else◌, ◌↔◌, cond, Ok, Err}
 use Rattle.c11_directives.specs.declared.directive.Directive.TheVariants as directive
 use Rattle.sc_base.specs.declared.fault.Fault as base
+use Rattle.sc_hoist.proofs.StateLemmas.{and_comm}
 use Rattle.sc_prep.proofs.Facts.{All-append, All-head, All-map, All-pop, All-push, All-tail, All-weaker, Denotes-Keeps, Denotes-self, IsConfig-Keeps, IsConfig-kept, IsTable-Keeps, and_parts, faults_at-Keeps, faults_at-append, macros_at-Keeps, map-append, map-one, reverse-append, same_definition-false, same_definition-true, under}
-use Rattle.sc_prep.proofs.Machine.{inert_acting, inert_changing}
+use Rattle.sc_prep.proofs.Machine.{inert_acting, inert_changing, right-none}
 use Rattle.sc_prep.proofs.OnceLemmas.{once-kept, once-stays}
 use Rattle.sc_prep.proofs.RunLemmas.{denotes-as, is_empty-one}
 use Rattle.sc_prep.proofs.Terms.{BadDirective, Cause, Cond, Defined, Definition, Denotes, Directive, ErrorDirective, IsCond, IsConfig, IsNever, IsStill, IsTable, Keeps, Line, Machine, MacroTable, Macros, Owns, OwnsSection, ProtectedName, Redefined, RefusesEach, Section, Sets, Simulates, SimulatesStep, Standard, State, StepsBetweenRuns, Token, Walk, acting, acting_unless, acts, changed_by, changing, defined_as, defined_over, ended, ends_run, faults_at, has_none, is_once_file, is_protected, macros_at, next_branch, opened, option_to_list, plain_by, refusal, refusal_of, refusing, refusing_if, same_bytes, same_definition, section_at, seen_fault, seen_line, set_at, turned, undefined, update, with_macro, with_text, without_macro}
@@ -12,7 +13,7 @@ use Rattle.sc_subst.specs.declared.hidden.Hidden.{Hidden}
 use Rattle.sc_subst.specs.declared.hidden.Hide.{Hide}
 use Rattle.sc_table.specs.Change.{IsOther}
 
-map-reverse : {A B : Type 0} (f : A → B) (xs : List A) → map f (reverse xs) ≡ reverse (map f xs)
+pub map-reverse : {A B : Type 0} (f : A → B) (xs : List A) → map f (reverse xs) ≡ reverse (map f xs)
 map-reverse f [] = refl
 map-reverse f (x ∷ xs) =
     ap (map f) (reverse-append (x ∷ []) xs) ∙ (map-append f (reverse xs) (x ∷ []) ∙ (ap (λ ys. ys ++ f x ∷ []) (map-reverse f xs) ∙ sym (reverse-append (f x ∷ []) (map f xs))))
@@ -188,6 +189,21 @@ module _ {old new : Sets} (keeps : Keeps old new) (w : Walk) (owns : Owns old w)
       ap (λ ss. turned m (old.has section.around.0 config) ss) (ap (λ xs. map (section_at new config) (reverse xs)) items ∙ sections-kept keeps config listed rest owns-rest)
       ∙ ap (ended m) (innermost names files config m simulates))
 
+-- ---- a line that has no effect
+
+-- so that each machine is as it was
+pub stays-as : {names : List (List ℕ)} {s : Sets} {w : Walk} (f : List (List ℕ) → List ℕ → Machine → Machine)
+    → ((files : List (List ℕ)) (config : List ℕ) (m : Machine) → IsConfig s.arities config → Simulates s names files w config m → m ≡ f files config m)
+    → Owns s w → SimulatesStep names s w s w f
+stays-as {names} {s} {w} f same owns = record {
+  owns = owns;
+  table = λ is. is;
+  at = λ files config m listed is simulates. subst (Simulates s names files w config) (same files config m listed simulates) simulates;
+}
+
+pub stays : (names : List (List ℕ)) (s : Sets) (w : Walk) → Owns s w → SimulatesStep names s w s w (λ files config m. m)
+stays names s w owns = stays-as (λ files config m. m) (λ files config m listed simulates. refl) owns
+
 -- ---- a refusal
 
 live_after : {F : Type 0} (t a : Bool) (f : Option F) (x : F) → (is_none f && not (t && (a && is_none f))) ≡ is_none (if t && (a && is_none f) then Some x else f)
@@ -211,10 +227,7 @@ fault_after true f x none = ap (λ g. option_to_list g ++ x ∷ []) (none refl)
 fault_after false f x none = append-nil (option_to_list f)
 
 acts_none : {F : Type 0} (t a : Bool) (f : Option F) → (t && (a && is_none f)) ≡ true → f ≡ None
-acts_none true true None e = refl
-acts_none true true (Some y) e = cc
-acts_none true false f e = cc
-acts_none false a f e = cc
+acts_none t a f e = right-none a f (and_parts t (a && is_none f) e).1
 
 none_before : {F : Type 0} (b : Bool) (f : Option F) (x : F) → (if b then Some x else f) ≡ None → f ≡ None
 none_before true f x none = absurd (cc)
@@ -282,13 +295,11 @@ refusing_none b m l cause e = ap (λ c. record m { fault = if c then Some (refus
 -- where the part has no configuration, none is refused
 pub refuses-none : (standard : Standard) (names : List (List ℕ)) (s : Sets) (w : Walk) → Owns s w → (part : Cond) (t : List ℕ → Bool) (cause : Cause) → Denotes s part.0 (λ c. t c && s.has w.acting.0 c) → IsNever s part.0
     → (line : List Token) → SimulatesStep names s w s w (λ files config m. refusing_if (t config) m (seen_line standard names files line) cause)
-refuses-none standard names s w owns part t cause dp never line = record {
-  owns = owns;
-  table = λ is. is;
-  at = λ files config m listed is simulates.
-      let inactive : (t config && acts m) ≡ false = ap (λ b. t config && b) (sym simulates.acting) ∙ (sym (dp.at config listed) ∙ never.none config listed) in
-      subst (Simulates s names files w config) (sym (refusing_none (t config) m (seen_line standard names files line) cause inactive)) simulates;
-}
+refuses-none standard names s w owns part t cause dp never line =
+    stays-as (λ files config m. refusing_if (t config) m (seen_line standard names files line) cause)
+    (λ files config m listed simulates.
+    let inactive : (t config && acts m) ≡ false = ap (λ b. t config && b) (sym simulates.acting) ∙ (sym (dp.at config listed) ∙ never.none config listed) in
+    sym (refusing_none (t config) m (seen_line standard names files line) cause inactive)) owns
 
 -- ---- a line is read
 
@@ -340,13 +351,10 @@ puts standard names s w owns hide unhidden tokens =
 -- where no configuration takes the line, nothing is read
 pub puts-none : (standard : Standard) (names : List (List ℕ)) (s : Sets) (w : Walk) → Owns s w → IsNever s w.acting.0 → (line : List Token)
     → SimulatesStep names s w s w (λ files config m. acting m (λ state. with_text state (seen_line standard names files line)))
-puts-none standard names s w owns never line = record {
-  owns = owns;
-  table = λ is. is;
-  at = λ files config m listed is simulates.
-      subst (Simulates s names files w config)
-      (sym (inert_acting m (λ state. with_text state (seen_line standard names files line)) (sym simulates.acting ∙ never.none config listed))) simulates;
-}
+puts-none standard names s w owns never line =
+    stays-as (λ files config m. acting m (λ state. with_text state (seen_line standard names files line)))
+    (λ files config m listed simulates.
+    sym (inert_acting m (λ state. with_text state (seen_line standard names files line)) (sym simulates.acting ∙ never.none config listed))) owns
 
 -- the state with these macros
 abbrev pub with_macros : State → Macros → State
@@ -354,21 +362,13 @@ with_macros s macros = record s { macros = macros }
 
 -- ---- a directive that has no effect
 
--- a line that has no effect
-pub stays : (names : List (List ℕ)) (s : Sets) (w : Walk) → Owns s w → SimulatesStep names s w s w (λ files config m. m)
-stays names s w owns = record { owns = owns; table = λ is. is; at = λ files config m listed is simulates. simulates }
-
-same_state : (b : Bool) (m : Machine) → m ≡ record m { state = if b then m.state else m.state }
+pub same_state : (b : Bool) (m : Machine) → m ≡ record m { state = if b then m.state else m.state }
 same_state true m = refl
 same_state false m = refl
 
 -- a line behind which the macros are as they were
 pub ignores : (names : List (List ℕ)) (s : Sets) (w : Walk) → Owns s w → SimulatesStep names s w s w (λ files config m. acting m (λ state. with_macros state m.state.macros))
-ignores names s w owns = record {
-  owns = owns;
-  table = λ is. is;
-  at = λ files config m listed is simulates. subst (Simulates s names files w config) (same_state (acts m) m) simulates;
-}
+ignores names s w owns = stays-as (λ files config m. acting m (λ state. with_macros state m.state.macros)) (λ files config m listed simulates. same_state (acts m) m) owns
 
 -- ---- the macros change
 
@@ -487,12 +487,6 @@ pub and-within : (a b : Bool) → (a ≡ true → b ≡ true) → a ≡ (a && b)
 and-within true b h = sym (h refl)
 and-within false b h = refl
 
-pub and-swapped : (a b : Bool) → (a && b) ≡ (b && a)
-and-swapped true true = refl
-and-swapped true false = refl
-and-swapped false true = refl
-and-swapped false false = refl
-
 -- ---- a directive that has no effect, or is not carried out
 
 -- a directive that is refused for this cause, or that has no effect
@@ -523,15 +517,6 @@ unchanged-by standard names s w owns line directive.Null e n u p = stays names s
 unchanged-by standard names s w owns line directive.Unknown e n u p = cc
 
 -- ---- moves joined
-
--- two moves, one after the other
-pub step-then : {names : List (List ℕ)} {r s t : Sets} {u v w : Walk} (f g : List (List ℕ) → List ℕ → Machine → Machine) → Keeps r s
-    → SimulatesStep names r u s v f → SimulatesStep names s v t w g → SimulatesStep names r u t w (λ files config m. g files config (f files config m))
-step-then f g keeps a b = record {
-  owns = b.owns;
-  table = λ is. b.table (a.table is);
-  at = λ files config m listed is simulates. b.at files config (f files config m) (IsConfig-Keeps keeps listed) (a.table is) (a.at files config m listed is simulates);
-}
 
 -- a move of machines whose runs were closed, and then another
 pub between-then : {names : List (List ℕ)} {r s t : Sets} {u v w : Walk} (f g : List (List ℕ) → List ℕ → Machine → Machine) → Keeps r s
@@ -572,11 +557,10 @@ step-as {names} {s = s} {v = v} f g same a = record {
 pub mild-stays : (standard : Standard) (names : List (List ℕ)) (s : Sets) (w : Walk) → Owns s w → (line : List Token) (o : Option Directive) (d : Directive) → o ≡ Some d → ends_run o ≡ false
     → SimulatesStep names s w s w (λ files config m. plain_by m (seen_line standard names files line) o)
 mild-stays standard names s w owns line o d is mild =
-    step-as (λ files config m. m) (λ files config m. plain_by m (seen_line standard names files line) o)
+    stays-as (λ files config m. plain_by m (seen_line standard names files line) o)
     (λ files config m _ _.
     ap (λ b. if b then changing m (seen_line standard names files line) d (changed_by m.state.macros (seen_line standard names files line) d) else m) (sym (sym (ap ends_run is) ∙ mild))
-    ∙ ap (plain_by m (seen_line standard names files line)) (sym is))
-    (stays names s w owns)
+    ∙ ap (plain_by m (seen_line standard names files line)) (sym is)) owns
 
 -- a move that follows other changes of the store
 pub step-kept : {names : List (List ℕ)} {r s t : Sets} {w v : Walk} {f : List (List ℕ) → List ℕ → Machine → Machine} → Keeps r s → Owns r w
@@ -643,5 +627,5 @@ module _ (standard : Standard) (names : List (List ℕ)) {old mid new : Sets} (k
       (refuse names (λ _. t) (record {
         own = denotes.own;
         at = λ config now.
-            denotes.at config now ∙ (and-swapped (old.has w.acting.0 config) t ∙ ap (λ b. t && b) (sym (keeps.at w.acting.0 config owns.acting (config-back keeps now))));
+            denotes.at config now ∙ (and_comm (old.has w.acting.0 config) t ∙ ap (λ b. t && b) (sym (keeps.at w.acting.0 config owns.acting (config-back keeps now))));
       })))

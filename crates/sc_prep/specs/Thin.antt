@@ -1,13 +1,12 @@
 -- What configurations put out of a token that they expand alike is one element of the list.
 use Rattle.std.specs.Prelude.{◌≡◌, ℕ, ◌+◌, ◌<◌, ◌++◌, true, false, List, length, map, slice_get, take, Some}
-use Rattle.c11_directives.specs.Footprints.{SourceFootprint, Spot, Used}
+use Rattle.c11_directives.specs.Footprints.{Spot, Used}
 use Rattle.c11_directives.specs.Lines.{Line}
 use Rattle.c11_directives.specs.Pragmas.{is_pragma}
 use Rattle.c11_directives.specs.Pre.{State}
 use Rattle.c11_directives.specs.PutOut.{PutsOut}
 use Rattle.c11_directives.specs.Reaches.{Moment, at_line}
 use Rattle.c11_macros.specs.Hidden.{Hidden}
-use Rattle.c11_macros.specs.Macros.{Macros}
 use Rattle.c11_macros.specs.Runs.{over}
 use Rattle.c11_macros.specs.Text.{token_of}
 use Rattle.sc_base.specs.declared.id.Cond.{Cond}
@@ -18,17 +17,16 @@ use Rattle.sc_expand.specs.Moved.{moved}
 use Rattle.sc_expand.specs.Seen.{provenance_of}
 use Rattle.sc_expand.specs.Spans.{ComesAt, IsSpan}
 use Rattle.sc_expand.specs.Stops.{HasConfigs}
-use Rattle.sc_expand.specs.Thin.{IsNth}
 use Rattle.sc_guarded.specs.Items.{items_at}
 use Rattle.sc_model.specs.Sets.{IsConfig, Sets}
 use Rattle.sc_model.specs.Token.{Place, Token}
 use Rattle.sc_prep.specs.Closes.{has_none}
+use Rattle.sc_prep.specs.Footprints.{any_machine}
 use Rattle.sc_prep.specs.Machine.{Machine, acts}
 pub use Rattle.sc_prep.specs.OneElement.{HaveOne, IsThin}
 use Rattle.sc_prep.specs.Pragmas.{Awaited, AwaitsAt, awaits, no_operator, outside}
 use Rattle.sc_prep.specs.Simulates.{Simulates}
 use Rattle.sc_prep.specs.declared.walk.Walk.{Walk}
-use Rattle.sc_subst.specs.declared.hidden.Hidden as base_hidden
 use Rattle.sc_subst.specs.Seen.{seen_hidden}
 use Rattle.sc_table.specs.Table.{macros_at}
 
@@ -67,24 +65,21 @@ module _ (s : Sets) (names files : List (List ℕ)) (walk : Walk) where
     one_held : (has_none s walk.runs.held.items c ≡ true → ⊥) → Shares c d index n m
     other_held : (has_none s walk.runs.held.items d ≡ true → ⊥) → Shares c d index n m
 
--- From one walk to the next more is put out, and what two configurations share they share, if
--- neither is refused.
-pub record KeepsShares (files names : List (List ℕ)) (old : Sets) (walk : Walk) (more_files more : List (List ℕ)) (new : Sets) (next : Walk) : Type 0 where
-  pub longer : (behind : List (Cond × base_token.Token)) × (next.prepared.list ≡ walk.prepared.list ++ behind)
-  pub at : (c d : List ℕ) → IsConfig old.arities c → IsConfig old.arities d → new.has next.prepared.live.0 c ≡ true → new.has next.prepared.live.0 d ≡ true
-      → (k l : Machine) → Simulates old names files walk c k → Simulates old names files walk d l
-      → (index n m : ℕ) → Shares old names files walk c d index n m → Shares new more more_files next c d index n m
-
--- the same, where there are no more configurations than the limit
-abbrev pub SharesWithin : (limit : ℕ) (files names : List (List ℕ)) (old : Sets) (walk : Walk) (more_files more : List (List ℕ)) (new : Sets) (next : Walk) → Type 0
-SharesWithin limit files names old walk more_files more new next = (HasConfigs old.arities (limit + 1) → ⊥) → KeepsShares files names old walk more_files more new next
-
--- the same of two configurations whose machines are as this says
+-- From one walk to the next more is put out, and what two configurations share whose machines are
+-- as this says they share, if neither is refused.
 pub record KeepsSharesOf (from : Machine → Type 0) (files names : List (List ℕ)) (old : Sets) (walk : Walk) (more_files more : List (List ℕ)) (new : Sets) (next : Walk) : Type 0 where
   pub longer : (behind : List (Cond × base_token.Token)) × (next.prepared.list ≡ walk.prepared.list ++ behind)
   pub at : (c d : List ℕ) → IsConfig old.arities c → IsConfig old.arities d → new.has next.prepared.live.0 c ≡ true → new.has next.prepared.live.0 d ≡ true
       → (k l : Machine) → Simulates old names files walk c k → Simulates old names files walk d l → from k → from l
       → (index n m : ℕ) → Shares old names files walk c d index n m → Shares new more more_files next c d index n m
+
+-- whichever machines they have
+abbrev pub KeepsShares : (files names : List (List ℕ)) (old : Sets) (walk : Walk) (more_files more : List (List ℕ)) (new : Sets) (next : Walk) → Type 0
+KeepsShares = KeepsSharesOf any_machine
+
+-- the same, where there are no more configurations than the limit
+abbrev pub SharesWithin : (limit : ℕ) (files names : List (List ℕ)) (old : Sets) (walk : Walk) (more_files more : List (List ℕ)) (new : Sets) (next : Walk) → Type 0
+SharesWithin limit files names old walk more_files more new next = (HasConfigs old.arities (limit + 1) → ⊥) → KeepsShares files names old walk more_files more new next
 
 -- Two configurations put out a token of one footprint, each at a line to which its machine comes
 -- behind the same #includes, and neither is refused. Then this holds of their numbers.

@@ -1,12 +1,13 @@
 use Rattle.std.proofs.Common.{◌∙◌, sym, subst}
 use Rattle.sc_prep.proofs.Facts.{Denotes-self}
-use Rattle.sc_prep.proofs.ReadMoves.{ends-all, ends-nothing, ends-some, no-items}
+use Rattle.sc_prep.proofs.ReadMoves.{ends-all, ends-nothing, ends-some}
 use Rattle.sc_prep.proofs.Terms.{EndsRead}
 use Rattle.sc_prep.proofs.open_runs.OpenRuns.end.Goals as goal
+use Rattle.std.proofs.lemmas.List.{nil_from_length}
 
 pub returns-then-len-eq0-clause-ends : goal.returns-then-len-eq0-clause-ends
 returns-then-len-eq0-clause-ends g c =
-    ends-nothing (g.C.Conditions.sets c.args.conds.now) c.args.self.now.read c.args.acting.0 c.args.live.0 c.requires.own (no-items c.args.self.now.read (sym c.len.ensures ∙ c.if-len-eq0.true))
+    ends-nothing (g.C.Conditions.sets c.args.conds.now) c.args.self.now.read c.args.acting.0 c.args.live.0 c.requires.own (nil_from_length c.args.self.now.read (sym c.len.ensures ∙ c.if-len-eq0.true))
 
 pub returns-then-is_never-clause-ends : goal.returns-then-is_never-clause-ends
 returns-then-is_never-clause-ends g c =

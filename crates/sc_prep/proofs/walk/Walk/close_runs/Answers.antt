@@ -1,9 +1,10 @@
-use Rattle.std.proofs.Common.{append-nil, refl, sym, []}
+use Rattle.std.proofs.Common.{refl, []}
 use Rattle.sc_prep.proofs.ApartLemmas.{gathers-same}
 use Rattle.sc_prep.proofs.CloseMoves.{closes-none, ended-stage}
 use Rattle.sc_prep.proofs.Facts.{IsConfig-Keeps, Keeps-trans}
 use Rattle.sc_prep.proofs.SettleMoves.{same-machine, settled-closes, stage-stored}
-use Rattle.sc_prep.proofs.SharesEnded.{lives-before, shares-then}
+use Rattle.sc_prep.proofs.SharesEnded.{lives-before}
+use Rattle.sc_prep.proofs.SharesKept.{shares-behind, shares-refl}
 use Rattle.sc_prep.proofs.walk.Walk.close_runs.Goals as goal
 
 pub returns-then-is_never-clause-closes : goal.returns-then-is_never-clause-closes
@@ -18,7 +19,7 @@ returns-then-is_never-clause-closes g c =
     }
 
 pub returns-then-is_never-clause-shares : goal.returns-then-is_never-clause-shares
-returns-then-is_never-clause-shares g c = λ few. record { longer = ([], sym (append-nil c.args.self.now.prepared.list)); at = λ x y at_x at_y live_x live_y k l simulates_k simulates_l index n m shares. shares }
+returns-then-is_never-clause-shares g c = λ few. shares-refl
 
 pub end_runs-requires : goal.end_runs-requires
 end_runs-requires g c = let stays = c.in_ok-settle_runs.ensures.stays in record { owns = stays.simulates.owns; held = λ k d h. (stays.held.runs.gathered k d h).0 }
@@ -33,8 +34,11 @@ pub returns-clause-shares : goal.returns-clause-shares
 returns-clause-shares g c = λ few.
     let settled = c.in_ok-settle_runs.ensures in
     let ended = c.in_ok-end_runs.ensures in
-    shares-then settled.keeps (same-machine settled.keeps settled.stays) (λ x listed live. lives-before ended.ends ended.keeps x (IsConfig-Keeps settled.keeps listed) live) (settled.shares few)
-    (ended.shares c.args.files.now (stage-stored settled.keeps settled.stays) settled.ends)
+    let lives = lives-before ended.ends ended.keeps in
+    shares-behind settled.keeps
+    (λ x k listed at _ live.
+    record { machine = k; simulates = same-machine settled.keeps settled.stays x k listed at; live = lives x (IsConfig-Keeps settled.keeps listed) live; is = tt })
+    (ended.shares c.args.files.now (stage-stored settled.keeps settled.stays) settled.ends) (settled.shares few)
 
 pub returns-clause-keeps : goal.returns-clause-keeps
 returns-clause-keeps g c = Keeps-trans c.in_ok-settle_runs.ensures.keeps c.in_ok-end_runs.ensures.keeps

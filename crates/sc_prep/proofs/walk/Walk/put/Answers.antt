@@ -2,8 +2,9 @@ use Rattle.std.proofs.Common.{refl, ◌≡◌, ◌∙◌, sym, ap, subst, length
 use Rattle.sc_prep.proofs.ApartLemmas.{gathers-line, gathers-same}
 use Rattle.sc_prep.proofs.Facts.{take-length}
 use Rattle.sc_prep.proofs.Held.{read-held}
+use Rattle.sc_prep.proofs.SharesKept.{shares-refl}
 use Rattle.sc_prep.proofs.SharesText.{put-shares, text-shares}
-use Rattle.sc_prep.proofs.CalmShares.{never-text, stays-shared}
+use Rattle.sc_prep.proofs.CalmShares.{never-text}
 use Rattle.sc_prep.proofs.Terms.{GathersFrom, IsHeldWalk, SimulatesStep, Walk, acting, seen_line, with_text}
 use Rattle.sc_prep.specs.Thin.{KeepsShares, TextShares}
 use Rattle.sc_prep.proofs.Texts.{read-more}
@@ -62,7 +63,7 @@ returns-clause-text g c = λ standard names files apart.
     subst (λ (next : Walk). TextShares files names s w (seen_line standard names files line) names s next) (sym is) (text-shares standard s names files w c.empty-hide.result c.empty-hide.ensures.none line apart)
 
 pub returns-then-is_never-clause-shares : goal.returns-then-is_never-clause-shares
-returns-then-is_never-clause-shares g c = λ names files. stays-shared files names (g.C.Conditions.sets c.args.conds.now) c.args.self.now
+returns-then-is_never-clause-shares g c = λ names files. shares-refl
 
 pub returns-then-is_never-clause-text : goal.returns-then-is_never-clause-text
 returns-then-is_never-clause-text g c = λ standard names files apart.

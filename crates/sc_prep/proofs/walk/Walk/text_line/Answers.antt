@@ -3,7 +3,7 @@ use Rattle.sc_prep.proofs.ApartLemmas.{gathers-same}
 use Rattle.sc_prep.proofs.Facts.{on_ok_weaker}
 use Rattle.sc_prep.proofs.Terms.{acting, plain_by, seen_line, with_text}
 use Rattle.sc_prep.proofs.WalkMoves.{mild-stays, step-as}
-use Rattle.sc_prep.proofs.CalmShares.{stays-shared}
+use Rattle.sc_prep.proofs.SharesKept.{shares-refl}
 use Rattle.sc_prep.proofs.walk.Walk.text_line.Goals as goal
 
 pub returns-in-None-clause-moved : goal.returns-in-None-clause-moved
@@ -23,7 +23,7 @@ pub returns-in-None-clause-text : goal.returns-in-None-clause-text
 returns-in-None-clause-text g c = on_ok_weaker c.put.result (λ text none. text) c.put.ensures.text
 
 pub returns-in-Some-clause-shares : goal.returns-in-Some-clause-shares
-returns-in-Some-clause-shares g c = λ names files. stays-shared files names (g.C.Conditions.sets c.args.conds.now) c.args.self.now
+returns-in-Some-clause-shares g c = λ names files. shares-refl
 
 pub returns-in-Some-clause-text : goal.returns-in-Some-clause-text
 returns-in-Some-clause-text g c = λ none. let some = c.in-Some.is in absurd (cc)
