@@ -89,7 +89,8 @@ module _ (files : List (List ℕ)) {names more : List (List ℕ)} {old mid : Set
       Has : List ℕ → Machine → Type 0
       Has c m = (m.fault ≡ None) × KeepsMacros later grows (Extends-refl files) v next stored runs list c
 
-      ends : (c : List ℕ) (m : Machine) → IsConfig mid.arities c → Simulates mid more files v c m → IsBetweenRuns m → new.has next.prepared.live.0 c ≡ true → Has c m
+      ends : (c : List ℕ) (m : Machine) → IsConfig mid.arities c → Simulates mid more files v c m → IsBetweenRuns m → new.has next.prepared.live.0 c ≡ true
+          → Has c m
       ends c m listed at empty live = by (acts m) refl (second c m listed at empty)
         where
           by : (b : Bool) → acts m ≡ b → Arrives new much files next c (λ n. acts m ≡ false → n ≡ m) → Has c m

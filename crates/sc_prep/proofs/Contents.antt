@@ -10,10 +10,6 @@ use Rattle.sc_prep.specs.declared.content.Content.TheVariants as content
 use Rattle.sc_prep.specs.declared.content.Reading.{Reading}
 use Rattle.std.proofs.lemmas.Bool.{false_from_ne_true}
 
--- functions that agree at each item
-map-each : {A B : Type 0} (f g : A → B) → ((x : A) → f x ≡ g x) → (xs : List A) → map f xs ≡ map g xs
-map-each f g same xs = λ i. map (λ x. same x i) xs
-
 -- ---- tokens that the tables hold look the same when they have more
 
 module _ {names more : List (List ℕ)} (grows : Extends names more) where
@@ -30,7 +26,7 @@ module _ {names more : List (List ℕ)} (grows : Extends names more) where
       let one : (l : Line) → directive_at standard more (tokens_of tokens l) ≡ directive_at standard names (tokens_of tokens l) = λ l. ap (directive_of (directives_of standard))
       (spelled-later [] (tokens_of tokens l) (All-take (IsHeld names) (l.end - l.first) (drop l.first tokens) (All-drop (IsHeld names) l.first tokens held))) in
       ap (map (directive_at standard more)) (sym are) ∙ (map-map (directive_at standard more) (tokens_of tokens) lines
-      ∙ (map-each (λ l. directive_at standard more (tokens_of tokens l)) (λ l. directive_at standard names (tokens_of tokens l)) one lines
+      ∙ ((λ i. map (λ l. one l i) lines)
       ∙ (sym (map-map (directive_at standard names) (tokens_of tokens) lines) ∙ ap (map (directive_at standard names)) are)))
 
 module _ {names more files more_files : List (List ℕ)} (grows : Extends names more) (files_grow : Extends files more_files) where

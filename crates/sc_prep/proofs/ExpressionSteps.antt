@@ -150,8 +150,10 @@ module _ (x : Context) (l : Line) (hash : Token) (asks : test_of l ≡ Some Expr
 -- ---- the line that has a test
 
 -- the machine goes by what the line decides
-decided-as : (x : Context) (l : Line) (c : Conditional) (goes : Machine → Bool → Machine) {asked : Bool} {m n : Machine} {is_taken : Bool} → conditional_of l ≡ Some c
-    → asked ≡ asks_by m (Some c) → ((b : Bool) → goes m b ≡ step_by m l (Ok b) (Some c)) → ((fault : Fault) → goes (failed m fault) false ≡ step_by m l (Err fault) (Some c))
+decided-as : (x : Context) (l : Line) (c : Conditional) (goes : Machine → Bool → Machine) {asked : Bool} {m n : Machine} {is_taken : Bool}
+    → conditional_of l ≡ Some c
+    → asked ≡ asks_by m (Some c) → ((b : Bool) → goes m b ≡ step_by m l (Ok b) (Some c))
+    → ((fault : Fault) → goes (failed m fault) false ≡ step_by m l (Err fault) (Some c))
     → DecidesAt x l asked m is_taken n → Decided x m l (goes n is_taken)
 decided-as x l c goes {m = m} named same ok err (deciding_idle quiet untaken) = record {
   decision = Ok false;
@@ -170,7 +172,8 @@ decided-as x l c goes {m = m} named same ok err (deciding_fails fault asked unta
 }
 
 -- what opens a section does so by what it decides
-pub decided-opening : (x : Context) (l : Line) {test : Test} {asked : Bool} {m n : Machine} {is_taken : Bool} → conditional_of l ≡ Some (Opening test) → asked ≡ acts m
+pub decided-opening : (x : Context) (l : Line) {test : Test} {asked : Bool} {m n : Machine} {is_taken : Bool} → conditional_of l ≡ Some (Opening test)
+    → asked ≡ acts m
     → DecidesAt x l asked m is_taken n → Decided x m l (opened n is_taken)
 decided-opening x l {test} named same = decided-as x l (Opening test) opened named same (λ b. refl) (λ fault. refl)
 

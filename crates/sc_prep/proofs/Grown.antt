@@ -23,7 +23,8 @@ module _ {names more : List (List ℕ)} (grows : Extends names more) where
 
 -- ---- all tables
 
-pub faults-later : (s : Sets) {files more : List (List ℕ)} → Extends files more → (fs : List base_fault.Fault) (c : List ℕ) → Every (λ (f : base_fault.Fault). f.place.file.0 < length files) fs
+pub faults-later : (s : Sets) {files more : List (List ℕ)} → Extends files more → (fs : List base_fault.Fault) (c : List ℕ)
+    → Every (λ (f : base_fault.Fault). f.place.file.0 < length files) fs
     → map (seen_fault more) (faults_at s fs c) ≡ map (seen_fault files) (faults_at s fs c)
 faults-later s files_grow [] c there = refl
 faults-later s {files} {more} files_grow (f ∷ fs) c there = by (faults-later s files_grow fs c there.1) (s.has f.cond.0 c)

@@ -94,7 +94,8 @@ module _ {T : Type 0} (old new : Sets) (t : List ℕ → Bool) where
 module _ {T P : Type 0} (see : T → Hidden P) (provenance : Provenance P) (macros more : List ℕ → Macros)
     (old new : Sets) (t : List ℕ → Bool) {items kept : List (Cond × T)} (each : KeepsEach old t new items kept) where
   -- it comes there still, and the same becomes of it
-  abbrev pub still-comes : {at size : ℕ} {item : Cond × T} (stands : StandsAt old new t items kept at size item) (c : List ℕ) → IsConfig old.arities c → t c ≡ true
+  abbrev pub still-comes : {at size : ℕ} {item : Cond × T} (stands : StandsAt old new t items kept at size item) (c : List ℕ) → IsConfig old.arities c
+      → t c ≡ true
       → more c ≡ macros c → (x : ComesAt see provenance macros old items at c) → x.item ≡ item → ComesAt see provenance more new kept stands.now c
   still-comes {at} {item = item} stands c listed here same x is =
       let all : map see (items_at old items c) ≡ map see (items_at new kept c) = ap (map see) (sym (each-at old new t c listed here each)) in
@@ -114,8 +115,10 @@ module _ {T P : Type 0} (see : T → Hidden P) (provenance : Provenance P) (macr
       }
 
   -- two that expand it alike do so still
-  abbrev pub still-span : {at size : ℕ} (c d : List ℕ) → IsConfig old.arities c → IsConfig old.arities d → t c ≡ true → t d ≡ true → more c ≡ macros c → more d ≡ macros d
-      → (x : IsSpan see provenance macros old items at size c d) (stands : StandsAt old new t items kept at size x.one.item) → IsSpan see provenance more new kept stands.now stands.few c d
+  abbrev pub still-span : {at size : ℕ} (c d : List ℕ) → IsConfig old.arities c → IsConfig old.arities d → t c ≡ true → t d ≡ true → more c ≡ macros c
+      → more d ≡ macros d
+      → (x : IsSpan see provenance macros old items at size c d) (stands : StandsAt old new t items kept at size x.one.item)
+      → IsSpan see provenance more new kept stands.now stands.few c d
   still-span c d at_c at_d here there same_c same_d x stands = record {
     one = still-comes stands c at_c here same_c x.one refl;
     other = still-comes stands d at_d there same_d x.other (same_Some x.other.item x.one.item (sym x.other.is ∙ x.one.is));

@@ -113,7 +113,8 @@ module _ {T : Type 0} (s : Sets) (c : List ℕ) where
       by true has (suc k) at again = next true k has at again
       by false has n at again = next false n has at again
 
-  nth-at : (front : List (Cond × T)) (item : Cond × T) (back : List (Cond × T)) → s.has item.0.0 c ≡ true → IsNth s (front ++ item ∷ back) c (length (items_at s front c)) (length front)
+  nth-at : (front : List (Cond × T)) (item : Cond × T) (back : List (Cond × T)) → s.has item.0.0 c ≡ true
+      → IsNth s (front ++ item ∷ back) c (length (items_at s front c)) (length front)
   nth-at [] item back has = ap (λ l. slice_get l 0) (indexes-cons item back ∙ ap (λ b. if b then 0 ∷ map suc (indexes_at s back c) else map suc (indexes_at s back c)) has)
   nth-at (x ∷ xs) item back has = by (s.has x.0.0 c) (indexes-cons x rest) (get-map suc (indexes_at s rest c) (length (items_at s xs c)) (length xs) (nth-at xs item back has))
     where
@@ -190,7 +191,8 @@ module _ {T : Type 0} (s : Sets) (c : List ℕ) where
 
 -- ---- of other stores, and of other lists under the same conditions
 
-behind-kept : {T : Type 0} {old new : Sets} (list : List (Cond × T)) {c : List ℕ} → Keeps old new → All (λ (item : Cond × T). IsCond old item.0.0) list → IsConfig old.arities c → behind_at new list c ≡ behind_at old list c
+behind-kept : {T : Type 0} {old new : Sets} (list : List (Cond × T)) {c : List ℕ} → Keeps old new → All (λ (item : Cond × T). IsCond old item.0.0) list
+    → IsConfig old.arities c → behind_at new list c ≡ behind_at old list c
 behind-kept [] keeps own listed = refl
 behind-kept {T} {old} {new} (x ∷ xs) {c} keeps own listed =
     let P : Cond × T → Type 0 = λ item. IsCond old item.0.0 in

@@ -129,7 +129,8 @@ module _ {a b : Sets} {names files mid mid_files : List (List ℕ)} {u v : Walk}
       (fine : (config : List ℕ) (m n : Machine) → later config m n → is_none n.fault ≡ true → is_none m.fault ≡ true) (leads_on : Leads mid_files mid b v more_files more z w between later)
       (shares : KeepsSharesOf between mid_files mid b v more_files more z w) (so_far : SharesLines x entry standard tokens number a names files u b mid mid_files v) where
     -- one that isn't refused later isn't yet
-    behind : (c : List ℕ) (k : Machine) → IsConfig a.arities c → Simulates a names files u c k → IsAtTop files entry k → z.has w.prepared.live.0 c ≡ true → Behind b mid mid_files v between c
+    behind : (c : List ℕ) (k : Machine) → IsConfig a.arities c → Simulates a names files u c k → IsAtTop files entry k → z.has w.prepared.live.0 c ≡ true
+        → Behind b mid mid_files v between c
     behind c k listed at from live =
         let was = here c k listed at from in
         let so = inside was.machine was.inside in

@@ -30,7 +30,8 @@ use Rattle.sc_subst.proofs.Later.{hidden_later}
 use Rattle.sc_subst.specs.declared.hidden.Hidden as base_hidden
 
 -- it stays the n-th of a list that grows
-pub nth-later : {old new : Sets} (keeps : Keeps old new) (c : List ℕ) → IsConfig old.arities c → {T : Type 0} (xs ys : List (Cond × T)) → All (λ (item : Cond × T). IsCond old item.0.0) xs
+pub nth-later : {old new : Sets} (keeps : Keeps old new) (c : List ℕ) → IsConfig old.arities c → {T : Type 0} (xs ys : List (Cond × T))
+    → All (λ (item : Cond × T). IsCond old item.0.0) xs
     → (n i : ℕ) → IsNth old xs c n i → IsNth new (xs ++ ys) c n i
 nth-later {new = new} keeps c listed xs ys own n i is = nth-front new c xs ys n i (nth-kept xs keeps own listed n i is)
 
@@ -351,7 +352,8 @@ module _ {old mid new : Sets} {files names mid_files more last_files last : List
 
   -- and what was put out in the first
   pub puts-behind : (comes : List ℕ → Machine → List Place → Moment → Type 0)
-      → WherePutOut files names old w from comes mid v (Shares mid more mid_files v) → WherePutOut files names old w from comes new next (Shares new last last_files next)
+      → WherePutOut files names old w from comes mid v (Shares mid more mid_files v)
+      → WherePutOut files names old w from comes new next (Shares new last last_files next)
   puts-behind comes puts = λ c d p q live live_d k l at at_d here here_d chain line away s t f index n m it it_d one two.
       let a = behind c k p at here live in
       let b = behind d l q at_d here_d live_d in

@@ -149,7 +149,8 @@ module _ (files : List (List ℕ)) {names more : List (List ℕ)} {old mid new :
         index one.made other.made one.stands other.stands in
         (length w.prepared.list + puts.puts.each.place it.0, put-one c listed here free at span.one index n one it.0 it.1, put-one d listed_too there free_too at span.other index m other it.0 it.2)
 
-    shares-waiting : asked.0 ≡ live.0 → new.has next.prepared.live.0 c ≡ true → new.has next.prepared.live.0 d ≡ true → SharesWaiting old names files w new more files next c d index n m
+    shares-waiting : asked.0 ≡ live.0 → new.has next.prepared.live.0 c ≡ true → new.has next.prepared.live.0 d ≡ true
+        → SharesWaiting old names files w new more files next c d index n m
     shares-waiting same alive alive_too at size span less one other = by (has_none new next.runs.held.items c) (has_none new next.runs.held.items d) refl refl
       where
         by : (a b : Bool) → has_none new next.runs.held.items c ≡ a → has_none new next.runs.held.items d ≡ b → Now

@@ -16,7 +16,8 @@ pub stays-plain : (names : List (List ℕ)) (files : ℕ) (line : List Token) (w
     → AllPass (is_plain names) w.prepared.list → AllPass (is_plain names) next.prepared.list
 stays-plain names files line w next stays placed held passed = (stays files (is_plain names) placed (with-test names files any_token (is_plain names) w held passed)).passed
 
-pub directive-is : (standard : Standard) (names files : List (List ℕ)) (line : List Token) (d : Option Directive) → d ≡ directive_at standard names line → (seen_line standard names files line).directive ≡ d
+pub directive-is : (standard : Standard) (names files : List (List ℕ)) (line : List Token) (d : Option Directive) → d ≡ directive_at standard names line
+    → (seen_line standard names files line).directive ≡ d
 directive-is standard names files line d at = directive-files standard names files line ∙ sym at
 
 -- a conditional directive that decides nothing here

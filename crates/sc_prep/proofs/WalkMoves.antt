@@ -380,6 +380,10 @@ changed_once : (b : Bool) (s : State) (macros : Macros) (name : List ℕ) → is
 changed_once true s macros name = refl
 changed_once false s macros name = refl
 
+-- the walk with another table
+pub same-owns : {old new : Sets} (keeps : Keeps old new) (w : Walk) (owns : Owns old w) (table : MacroTable) → Owns new (record w { table = table })
+same-owns keeps w owns table = let kept = owns-kept keeps w owns in record { group = kept.group; acting = kept.acting; sections = kept.sections; runs = kept.runs; once = kept.once; prepared = kept.prepared }
+
 -- Where the line does something, but for a part, the table has other macros behind it, elsewhere
 -- those from before.
 pub changes-macros : (names : List (List ℕ)) {old new : Sets} (keeps : Keeps old new) (w : Walk) (owns : Owns old w) (table : MacroTable) (t : List ℕ → Bool) (becomes : Macros → Macros)
@@ -388,9 +392,8 @@ pub changes-macros : (names : List (List ℕ)) {old new : Sets} (keeps : Keeps o
     → (name : List ℕ) → macros_at new names table config name ≡ (if not (t config) && old.has w.acting.0 config then becomes macros name else macros name))
     → StepsBetweenRuns names old w new (record w { table = table }) (λ files config m. acting_unless (t config) m (λ s. with_macros s (becomes s.macros)))
 changes-macros names {old} {new} keeps w owns table t becomes is_table changed =
-    let kept = owns-kept keeps w owns in
     record {
-      owns = record { group = kept.group; acting = kept.acting; sections = kept.sections; runs = kept.runs; once = kept.once; prepared = kept.prepared };
+      owns = same-owns keeps w owns table;
       table = λ _. is_table;
       at = λ files config m listed is simulates between.
           let same = simulates-kept keeps w owns names files config m listed is simulates in
@@ -407,17 +410,12 @@ changes-macros names {old} {new} keeps w owns table t becomes is_table changed =
           };
     }
 
--- the walk with another table
-pub same-owns : {old new : Sets} (keeps : Keeps old new) (w : Walk) (owns : Owns old w) (table : MacroTable) → Owns new (record w { table = table })
-same-owns keeps w owns table = let kept = owns-kept keeps w owns in record { group = kept.group; acting = kept.acting; sections = kept.sections; runs = kept.runs; once = kept.once; prepared = kept.prepared }
-
 -- the table says what it said
 pub same-macros : (names : List (List ℕ)) {old new : Sets} (keeps : Keeps old new) (w : Walk) (owns : Owns old w) (table : MacroTable) → IsTable new names table → IsStill old new names w.table table
     → SimulatesStep names old w new (record w { table = table }) (λ files config m. m)
 same-macros names {old} {new} keeps w owns table is_table still =
-    let kept = owns-kept keeps w owns in
     record {
-      owns = record { group = kept.group; acting = kept.acting; sections = kept.sections; runs = kept.runs; once = kept.once; prepared = kept.prepared };
+      owns = same-owns keeps w owns table;
       table = λ _. is_table;
       at = λ files config m listed is simulates.
           let same = simulates-kept keeps w owns names files config m listed is simulates in
