@@ -1,6 +1,6 @@
 -- Tokens that stand apart, as lists of them are put together and taken apart.
-use Rattle.std.proofs.Common.{◌≡◌, ℕ, suc, ◌+◌, List, [], ◌∷◌, ◌++◌, drop, take, get_or, map, append_assoc, ap, sym, subst, arith, All, AllPairs, Option, inl, inr}
-use Rattle.sc_expand.proofs.UnchangedLemmas.{All-before, All-behind}
+use Rattle.std.proofs.Common.{◌≡◌, ℕ, suc, List, [], ◌∷◌, ◌++◌, drop, take, get_or, map, append_assoc, ap, sym, subst, arith, All, AllPairs, Option, inl, inr}
+use Rattle.sc_expand.proofs.KeptLemmas.{All-before, All-behind}
 use Rattle.sc_model.specs.Token as model
 use Rattle.sc_prep.proofs.Facts.{All-append, All-map, AllPairs-cons, append-nil, get_or-map, length-map, take-append-drop}
 use Rattle.sc_prep.proofs.Positions.{lexed-apart}

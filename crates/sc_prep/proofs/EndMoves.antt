@@ -6,7 +6,7 @@ use Rattle.sc_base.specs.Seen.{IsHeld}
 use Rattle.sc_subst.specs.declared.hidden.Hidden.{Hidden}
 use Rattle.sc_prep.proofs.Facts.{All-append, IsConfig-Keeps, IsConfig-kept, Keeps-trans, items_at-Keeps}
 use Rattle.sc_prep.proofs.RunLemmas.{denotes-as, faults-All, within-as, within-later}
-use Rattle.sc_prep.proofs.Terms.{Cond, Denotes, EndsRuns, Expanded, Failure, IsCond, IsConfig, IsWithin, Keeps, OpenRuns, RefusesEach, Sets, Walk, fault_items, has_none}
+use Rattle.sc_prep.proofs.Terms.{Cond, Denotes, EndsRuns, Expanded, Failure, IsCond, IsConfig, IsWithin, Keeps, OpenRuns, RefusesEach, Sets, Walk, has_none}
 use Rattle.sc_base.specs.declared.place.Place.{Place}
 use Rattle.sc_prep.specs.Pragmas.{EndsPragmas}
 use Rattle.sc_prep.specs.Read.{EndsRead, last_run}

@@ -1,4 +1,4 @@
--- How far a walk has gone: what it leads to from its start, while the tables grow.
+-- What a walk did and then did: how far it has gone from its start, while the tables grow.
 use Rattle.std.proofs.Common.{◌≡◌, ℕ, ◌+◌, ◌<◌, Bool, true, false, List, [], ◌∷◌, All, map, length, Option, Some, None, Result, Ok, Err, if◌then◌else◌, refl, sym, ap, ◌∙◌, subst, arith, slice_get}
 use Rattle.c11_directives.specs.declared.directive.Directive.TheVariants as directive
 use Rattle.c11_headers.specs.Headers.{Header, candidates, header_of}
@@ -13,50 +13,38 @@ use Rattle.sc_prep.proofs.LeadMoves.{contents-then, leads-then}
 use Rattle.sc_prep.proofs.Machine.{inert_arriving}
 use Rattle.sc_prep.proofs.NamedFiles.{sound-plain}
 use Rattle.sc_prep.proofs.PlainRuns.{covers-plain, each-leads, takes-plain}
-use Rattle.sc_prep.proofs.Terms.{Agrees, AllByRecursion as Every, AllPass, AreContents, AreHeldLines, ArePlainPaths, CarriesOut, Closed, Contents, Context, Enters, EntersAt, Entry, Extends, Fault, File, FileId, FileLines, Files, Finds, IsBetweenRuns, IsConfig, IsContext, IsIn, IsPlaced, IsPlainState, IsPlainToken, IsSound, Keeps, KeepsContents, Leads, Line, Machine, PlainEach, RunExpands, Says, Sets, Simulates, Space, Standard, State, Takes, Walk, acts, arriving, back, carries, closing_run, deeper, entered, file_with, found_or, hash_of, included, is_once_file, is_plain, left_out, line_of, put_out, result_map, search, seen, seen_line, text_at, token_lines, tokens_of, unwrap_or}
+use Rattle.sc_prep.proofs.Terms.{Agrees, AllByRecursion as Every, AreContents, AreHeldLines, ArePlainPaths, CarriesOut, Closed, Contents, Context, Enters, EntersAt, Entry, Extends, Fault, File, FileId, FileLines, Files, Finds, IsBetweenRuns, IsConfig, IsContext, IsIn, IsPlaced, IsPlainState, IsPlainToken, IsSound, Line, Machine, RunExpands, Says, Sets, Simulates, Space, Standard, State, Takes, Walk, acts, arriving, back, carries, closing_run, deeper, entered, file_with, found_or, hash_of, included, is_once_file, is_plain, left_out, line_of, put_out, result_map, search, seen, seen_line, text_at, token_lines, tokens_of, unwrap_or}
+use Rattle.sc_prep.specs.Going.{Gone}
 use Rattle.sc_prep.specs.Includes as includes
 use Rattle.sc_prep.specs.Machine as machine
 
--- what a walk did from one point to a later one
-pub record Gone (space : Space) (old : Sets) (names files : List (List ℕ)) (walk : Walk) (contents : Contents) (new : Sets) (more more_files : List (List ℕ)) (next : Walk) (now : Contents)
-    (given : Type 0) (from : Machine → Type 0) (does : Context → List ℕ → Machine → Machine → Type 0) : Type 0 where
-  pub keeps : Keeps old new
-  pub names_grow : Extends names more
-  pub files_grow : Extends files more_files
-  pub read : KeepsContents contents now
-  pub leads : (x : Context) → IsContext space x → Agrees space.standard more more_files x.files now → Leads files names old walk more_files more new next from (does x)
-  pub plain : given → (x : Context) → IsContext space x → Agrees space.standard more more_files x.files now → IsSound space → ArePlainPaths files → PlainEach old names files walk from
-      → AllPass (is_plain names) walk.prepared.list → AllPass (is_plain more) next.prepared.list
-  pub paths : given → (x : Context) → IsContext space x → Agrees space.standard more more_files x.files now → IsSound space → ArePlainPaths files → PlainEach old names files walk from → ArePlainPaths more_files
-
-module _ {space : Space} {a b c : Sets} {names files mid mid_files more more_files : List (List ℕ)} {u v w : Walk} {one two three : Contents} {given : Type 0} {from between : Machine → Type 0}
+module _ {space : Space} {a b c : Sets} {names files mid mid_files more more_files : List (List ℕ)} {u v w : Walk} {one two three : Contents} {given also : Type 0} {from between : Machine → Type 0}
     {does later whole : Context → List ℕ → Machine → Machine → Type 0} {holds : Option Files} (gone : Gone space a names files u one b mid mid_files v two given from does)
-    (held : AreContents space.standard mid mid_files holds two) (keeps : Keeps b c) (names_grow : Extends mid more) (files_grow : Extends mid_files more_files) (read : KeepsContents two three) where
+    (held : AreContents space.standard mid mid_files holds two) (next : Gone space b mid mid_files v two c more more_files w three also between later) where
   -- and what the next call did
-  pub gone-then : ((x : Context) → IsContext space x → Agrees space.standard more more_files x.files three → Leads mid_files mid b v more_files more c w between (later x))
-      → (given → (x : Context) → IsContext space x → Agrees space.standard more more_files x.files three → IsSound space → ArePlainPaths mid_files → PlainEach b mid mid_files v between
-      → AllPass (is_plain mid) v.prepared.list → AllPass (is_plain more) w.prepared.list)
-      → (given → (x : Context) → IsContext space x → Agrees space.standard more more_files x.files three → IsSound space → ArePlainPaths mid_files → PlainEach b mid mid_files v between → ArePlainPaths more_files)
-      → ((x : Context) (config : List ℕ) (m n : Machine) → from m → does x config m n → between n)
+  pub gone-then : (given → also) → ((x : Context) (config : List ℕ) (m n : Machine) → from m → does x config m n → between n)
       → (given → (x : Context) → IsContext space x → IsSound space → ArePlainPaths files → (config : List ℕ) (m n : Machine) → does x config m n → from m → IsPlainState m.state → IsPlainState n.state)
       → ((x : Context) (config : List ℕ) (m n o : Machine) → IsContext space x → IsConfig a.arities config → from m → does x config m n → later x config n o
       → Simulates c more more_files w config o → whole x config m o)
       → Gone space a names files u one c more more_files w three given from whole
-  gone-then leads plain paths goes stays joins = record {
-    keeps = Keeps-trans gone.keeps keeps;
-    names_grow = Extends-trans gone.names_grow names_grow;
-    files_grow = Extends-trans gone.files_grow files_grow;
-    read = contents-then gone.read read;
-    leads = λ x context agreed. leads-then gone.keeps (gone.leads x context (agrees-back names_grow files_grow held x.files read agreed)) (leads x context agreed) (goes x)
-        (λ config m n o listed here first second at. joins x config m n o context listed here first second at);
-    plain = λ g x context agreed sound plain_paths each list.
-        plain g x context agreed sound (gone.paths g x context (agrees-back names_grow files_grow held x.files read agreed) sound plain_paths each)
-        (each-leads gone.keeps (gone.leads x context (agrees-back names_grow files_grow held x.files read agreed)) (λ config m n did is state. (goes x config m n is did, stays g x context sound plain_paths config m n did is state)) each)
-        (gone.plain g x context (agrees-back names_grow files_grow held x.files read agreed) sound plain_paths each list);
-    paths = λ g x context agreed sound plain_paths each.
-        paths g x context agreed sound (gone.paths g x context (agrees-back names_grow files_grow held x.files read agreed) sound plain_paths each)
-        (each-leads gone.keeps (gone.leads x context (agrees-back names_grow files_grow held x.files read agreed)) (λ config m n did is state. (goes x config m n is did, stays g x context sound plain_paths config m n did is state)) each);
-  }
+  gone-then allows goes stays joins =
+      let before : (x : Context) → Agrees space.standard more more_files x.files three → Agrees space.standard mid mid_files x.files two =
+      λ x agreed. agrees-back next.names_grow next.files_grow held x.files next.read agreed in
+      record {
+        keeps = Keeps-trans gone.keeps next.keeps;
+        names_grow = Extends-trans gone.names_grow next.names_grow;
+        files_grow = Extends-trans gone.files_grow next.files_grow;
+        read = contents-then gone.read next.read;
+        leads = λ x context agreed. leads-then gone.keeps (gone.leads x context (before x agreed)) (next.leads x context agreed) (goes x)
+            (λ config m n o listed here first second at. joins x config m n o context listed here first second at);
+        plain = λ g x context agreed sound plain_paths each list.
+            next.plain (allows g) x context agreed sound (gone.paths g x context (before x agreed) sound plain_paths each)
+            (each-leads gone.keeps (gone.leads x context (before x agreed)) (λ config m n did is state. (goes x config m n is did, stays g x context sound plain_paths config m n did is state)) each)
+            (gone.plain g x context (before x agreed) sound plain_paths each list);
+        paths = λ g x context agreed sound plain_paths each.
+            next.paths (allows g) x context agreed sound (gone.paths g x context (before x agreed) sound plain_paths each)
+            (each-leads gone.keeps (gone.leads x context (before x agreed)) (λ config m n did is state. (goes x config m n is did, stays g x context sound plain_paths config m n did is state)) each);
+      }
 
 -- ---- texts that are spelled on one line
 

@@ -2,14 +2,14 @@
 use Rattle.std.proofs.Common.{◌≡◌, ℕ, zero, suc, ◌+◌, ◌<◌, ◌≤◌, drop, true, List, [], ◌∷◌, All, length, get_or, Option, Some, if◌then◌else◌, refl, sym, ap, ◌∙◌, subst, arith, map}
 use Rattle.c11_directives.specs.declared.directive.Directive.TheVariants as directive
 use Rattle.sc_base.specs.declared.token.Token as base
-use Rattle.sc_prep.proofs.Grown.{plain-grown}
-use Rattle.sc_prep.proofs.Facts.{All-drop, All-map, All-weaker, Extends-refl, IsConfig-Keeps, items_at-Keeps}
-use Rattle.sc_prep.proofs.Going.{Gone, Staged, closed-in, directories-plain, finds-staged, gone-then, line-later, staged-between, staged-plain, staged-takes, staged-then}
-use Rattle.sc_prep.proofs.LeadMoves.{contents-stay, leads-as, leads-one}
+use Rattle.sc_prep.proofs.Facts.{All-drop, All-map, All-weaker, IsConfig-Keeps, items_at-Keeps}
+use Rattle.sc_prep.proofs.Going.{Staged, closed-in, directories-plain, finds-staged, gone-then, line-later, staged-between, staged-plain, staged-takes, staged-then}
+use Rattle.sc_prep.proofs.LeadMoves.{leads-as}
 use Rattle.sc_prep.proofs.NamedFiles.{line-plain}
-use Rattle.sc_prep.proofs.PlainRuns.{covers-plain, each-any}
-use Rattle.sc_prep.proofs.Terms.{Agrees, AllPass, AreContents, ArePartsOf, ArePlaced, ArePlainPaths, Closed, Cond, Contents, Context, EntersAt, Entry, Extends, FileId, Files, Finds, IsBetweenRuns, IsCond, IsConfig, IsContext, IsIn, IsPlaced, IsSound, Keeps, KeepsContents, Leads, Machine, Part, PlainEach, Sets, SimulatesOneOf, Space, Standard, Takes, Walk, any_machine, content_at, files_at, is_plain, seen_line, text_at}
+use Rattle.sc_prep.proofs.PlainRuns.{covers-plain}
+use Rattle.sc_prep.proofs.Terms.{AreContents, ArePartsOf, Closed, Cond, Contents, EntersAt, Entry, FileId, Files, Finds, IsBetweenRuns, IsCond, IsConfig, IsIn, IsPlaced, Keeps, KeepsContents, Part, Sets, Space, Standard, Takes, Walk, content_at, files_at, is_plain, seen_line, text_at}
 use Rattle.sc_prep.proofs.WalkLeads.{plain-later}
+use Rattle.sc_prep.specs.Going.{Gone}
 use Rattle.sc_prep.specs.Machine as machine
 
 -- ---- the files that are left
@@ -40,76 +40,50 @@ parts-later {old} {new} {was} {now} {parts} keeps read are = record {
       (λ part kept. read.each part.file.0 (Some part.content.value) kept) parts are.kept;
 }
 
--- ---- the runs are closed
-
-pub gone-closed : {space : Space} {a b : Sets} {names mid files : List (List ℕ)} {u v : Walk} {contents : Contents} {given : Type 0} {from : Machine → Type 0} → Keeps a b → Extends names mid
-    → SimulatesOneOf files names a u mid b v (λ config m n. Closed m n)
-    → (PlainEach a names files u any_machine → AllPass (is_plain names) u.prepared.list → AllPass (is_plain mid) v.prepared.list)
-    → Gone space a names files u contents b mid files v contents given from (λ x config m n. Closed m n)
-gone-closed {files = files} {contents = contents} {from = from} keeps names_grow closes plain = record {
-  keeps = keeps;
-  names_grow = names_grow;
-  files_grow = Extends-refl files;
-  read = contents-stay contents;
-  leads = λ x context agreed. leads-one from closes;
-  plain = λ g x context agreed sound paths each list. plain (each-any each) list;
-  paths = λ g x context agreed sound paths each. paths;
-}
-
 abbrev pub Spelled : List (List ℕ) → List base.Token → Type 0
 Spelled names line = All (λ (t : base.Token). is_plain names t ≡ true) line
 
 module _ (standard : Standard) {names files : List (List ℕ)} (entry : Entry) (line : List base.Token) (placed : All (IsPlaced names (length files)) line)
     (directive_is : (seen_line standard names files line).directive ≡ Some directive.Include) where
   -- ---- the files are found
-  pub gone-found : {space : Space} {a b c : Sets} {mid more more_files : List (List ℕ)} {u v w : Walk} {one three : Contents} {holds : Option Files} (parts items : List Part) → items ≡ parts → Gone space a names files u one b mid files v one (Spelled names line) (IsIn files entry) (λ x config m n. Closed m n) → AreContents space.standard mid files holds one
-      → ArePlaced mid (length files) v.prepared.list → Keeps b c → Extends mid more → Extends files more_files → KeepsContents one three
-      → ((x : Context) → IsContext space x → Agrees space.standard more more_files x.files three
-      → Leads files mid b v more_files more c w (IsIn files entry) (λ config m n. Finds x (seen_line standard mid files line) more_files m (files_at c parts config) n))
-      → w.prepared.list ≡ v.prepared.list
-      → (IsSound space → All (λ (t : base.Token). is_plain mid t ≡ true) line → ArePlainPaths files → PlainEach b mid files v (IsIn files entry) → ArePlainPaths more_files)
+  pub gone-found : {space : Space} {a b c : Sets} {mid more more_files : List (List ℕ)} {u v w : Walk} {one three : Contents} {holds : Option Files} (parts items : List Part) → items ≡ parts
+      → Gone space a names files u one b mid files v one (Spelled names line) (IsIn files entry) (λ x config m n. Closed m n) → AreContents space.standard mid files holds one
+      → Gone space b mid files v one c more more_files w three (Spelled mid line) (IsIn files entry)
+      (λ x config m n. Finds x (seen_line standard mid files line) more_files m (files_at c parts config) n)
       → Gone space a names files u one c more more_files w three (Spelled names line) (IsIn files entry)
       (λ x config m n. Staged x (seen_line standard names files line) more_files entry.depth m (files_at c items config) n)
-  gone-found {space} {a} {b} {c} {mid} {more} {more_files} {u} {v} {w} {one} {three} parts items are gone held list_placed keeps names_grow files_grow read finds same paths =
+  gone-found {space} {a} {b} {c} {mid} {more} {more_files} {u} {v} {w} {one} {three} parts items are gone held found =
       subst (λ ps. Gone space a names files u one c more more_files w three (Spelled names line) (IsIn files entry)
       (λ x config m n. Staged x (seen_line standard names files line) more_files entry.depth m (files_at c ps config) n)) (sym are)
-      (gone-then {between = IsIn files entry} {later = λ x config m n. Finds x (seen_line standard mid files line) more_files m (files_at c parts config) n} gone held keeps names_grow files_grow read finds
-      (λ g x context agreed sound mid_paths each list. subst (AllPass (is_plain more)) (sym same) (plain-grown names_grow (length files) v.prepared.list list_placed list))
-      (λ g x context agreed sound mid_paths each. paths sound (plain-later gone.names_grow line placed g) mid_paths each)
+      (gone-then gone held found (plain-later gone.names_grow line placed)
       (λ x config m n from closed. closed-in m n from closed)
       (λ g x context sound paths config m n closed from state. covers-plain {x = x} (directories-plain context sound) {ls = []} (record { end = m; runs = machine.no_line; closed = closed }) state tt)
-      (λ x config m n o context listed from closed found at.
+      (λ x config m n o context listed from closed finds at.
       finds-staged entry.depth m n (λ here. (closed-in m n from closed here).deep) closed
-      (subst (λ l. Finds x l more_files n (files_at c parts config) o) (line-later standard gone.names_grow gone.files_grow line placed) found)))
+      (subst (λ l. Finds x l more_files n (files_at c parts config) o) (line-later standard gone.names_grow gone.files_grow line placed) finds)))
 
   -- ---- one of them is entered
   pub gone-entered : {space : Space} {a b c : Sets} {mid mid_files more more_files : List (List ℕ)} {u v w : Walk} {one two three : Contents} {holds : Option Files} (parts : List Part) (i : ℕ) (part : Part)
       → part ≡ get_or parts i part → i < length parts → All (λ (part : Part). IsCond b part.cond.0) parts
       → Gone space a names files u one b mid mid_files v two (Spelled names line) (IsIn files entry)
       (λ x config m n. Staged x (seen_line standard names files line) mid_files entry.depth m (files_at b (drop i parts) config) n)
-      → AreContents space.standard mid mid_files holds two → Keeps b c → Extends mid more → Extends mid_files more_files → KeepsContents two three
-      → ((x : Context) → IsContext space x → Agrees space.standard more more_files x.files three → Leads mid_files mid b v more_files more c w IsBetweenRuns
-      (λ config m n. EntersAt x (text_at mid_files part.file.0) (entry.depth + 1) m (b.has part.cond.0 config) n))
-      → ((x : Context) → IsContext space x → Agrees space.standard more more_files x.files three → IsSound space → ArePlainPaths mid_files → PlainEach b mid mid_files v IsBetweenRuns
-      → AllPass (is_plain mid) v.prepared.list → AllPass (is_plain more) w.prepared.list)
-      → ((x : Context) → IsContext space x → Agrees space.standard more more_files x.files three → IsSound space → ArePlainPaths mid_files → PlainEach b mid mid_files v IsBetweenRuns → ArePlainPaths more_files)
+      → AreContents space.standard mid mid_files holds two
+      → Gone space b mid mid_files v two c more more_files w three (Unit {0}) IsBetweenRuns
+      (λ x config m n. EntersAt x (text_at mid_files part.file.0) (entry.depth + 1) m (b.has part.cond.0 config) n)
       → Gone space a names files u one c more more_files w three (Spelled names line) (IsIn files entry)
       (λ x config m n. Staged x (seen_line standard names files line) more_files entry.depth m (files_at c (drop (i + 1) parts) config) n)
-  gone-entered {b = b} {c} {mid_files = mid_files} {more_files = more_files} parts i part one_is within own gone held keeps names_grow files_grow read enters plain paths =
-      gone-then {between = IsBetweenRuns}
-      {later = λ x config m n. EntersAt x (text_at mid_files part.file.0) (entry.depth + 1) m (b.has part.cond.0 config) n} gone held keeps names_grow files_grow read enters
-      (λ g x context agreed sound mid_paths each list. plain x context agreed sound mid_paths each list)
-      (λ g x context agreed sound mid_paths each. paths x context agreed sound mid_paths each)
+  gone-entered {b = b} {c} {mid_files = mid_files} {more_files = more_files} parts i part one_is within own gone held entered =
+      gone-then gone held entered (λ g. tt)
       (λ x config m n from staged. staged-between staged)
       (λ g x context sound plain_paths config m n staged from state.
       staged-plain (directories-plain context sound) directive_is staged state (line-plain names files line placed plain_paths g))
-      (λ x config m n o context listed from staged entered at.
+      (λ x config m n o context listed from staged enters at.
       let now = IsConfig-Keeps gone.keeps listed in
       let after : suc i ≡ i + 1 = omega arith in
       let next : drop (suc i) parts ≡ drop (i + 1) parts = ap (λ k. drop k parts) after in
-      let left = files-later keeps (drop (i + 1) parts) (All-drop (λ (part : Part). IsCond b part.cond.0) (i + 1) parts own) config now in
+      let left = files-later entered.keeps (drop (i + 1) parts) (All-drop (λ (part : Part). IsCond b part.cond.0) (i + 1) parts own) config now in
       subst (λ fs. Staged x (seen_line standard names files line) more_files entry.depth m fs o) (ap (λ ps. files_at b ps config) next ∙ sym left)
-      (staged-then part.file files_grow staged (subst (λ (p : Part). files_at b (drop i parts) config ≡ (if b.has p.cond.0 config then p.file ∷ files_at b (drop (suc i) parts) config else files_at b (drop (suc i) parts) config)) (sym one_is) (files-next b config parts i part within)) entered))
+      (staged-then part.file entered.files_grow staged (subst (λ (p : Part). files_at b (drop i parts) config ≡ (if b.has p.cond.0 config then p.file ∷ files_at b (drop (suc i) parts) config else files_at b (drop (suc i) parts) config)) (sym one_is) (files-next b config parts i part within)) enters))
 
   -- ---- all were entered
   pub gone-taken : {space : Space} {a b : Sets} {mid mid_files : List (List ℕ)} {u v : Walk} {one two : Contents} (parts : List Part) (i : ℕ) → length parts ≤ i

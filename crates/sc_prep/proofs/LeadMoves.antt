@@ -1,9 +1,10 @@
 -- How what the calls of a walk lead to is put together.
-use Rattle.std.proofs.Common.{◌≡◌, ℕ, ◌<◌, ◌≤◌, List, [], ◌∷◌, All, length, Option, Some, Result, inl, inr, arith, sym, ap, ◌∙◌, subst, IfErr, slice_get}
+use Rattle.std.proofs.Common.{◌≡◌, ℕ, ◌<◌, ◌≤◌, List, [], ◌∷◌, All, length, Option, Some, Result, inl, inr, arith, refl, sym, ap, ◌∙◌, subst, IfErr, slice_get}
 use Rattle.sc_base.specs.declared.fault.Fault as base
 use Rattle.sc_prep.proofs.Contents.{contents-later}
-use Rattle.sc_prep.proofs.Facts.{All-nil, All-push, Extends-refl, IfErr-weaker, IsConfig-Keeps, IsTable-Keeps, slice_get-get_or, unwrap_or-slice_get}
+use Rattle.sc_prep.proofs.Facts.{All-nil, All-push, Extends-refl, Extends-trans, IfErr-weaker, IsConfig-Keeps, IsTable-Keeps, slice_get-get_or, unwrap_or-slice_get}
 use Rattle.sc_prep.proofs.Held.{refused-held}
+use Rattle.sc_prep.specs.Going.{ReadsFiles}
 use Rattle.sc_prep.proofs.Terms.{AreContents, Around, Begins, BranchesFull, Cond, Content, Contents, Extends, Files, IsCond, IsConfig, IsHeldWalk, IsReady, IsStored, IsTable, Keeps, KeepsContents, Leads, Leaves, Machine, OutOfMemory, Owns, OwnsSection, ReadFault, RefusesEach, Sets, Simulates, SimulatesOneOf, Standard, Stop, Stops, StopsBy, Walk, any_token, content_at, text_at}
 use Rattle.sc_prep.proofs.Texts.{holds-none, owns-none}
 use Rattle.sc_prep.proofs.WalkMoves.{owns-kept}
@@ -21,6 +22,24 @@ pub content-named : {standard : Standard} {names files : List (List ℕ)} {holds
     → content_at contents file ≡ Some c → slice_get files file ≡ Some (text_at files file)
 content-named {files = files} are file at =
     slice_get-get_or files file [] (are.named file _ at) ∙ ap Some (sym (unwrap_or-slice_get files file []))
+
+-- ---- what is left at every outcome
+
+pub reads-of : {held holds : Option Files} {failed fails : ℕ} {names more files : List (List ℕ)} → holds ≡ held → failed ≤ fails → Extends names more → ReadsFiles held holds failed fails names more files files
+reads-of {files = files} kept counted grows = record { kept = kept; counted = counted; names = grows; files = Extends-refl files }
+
+-- no file was read
+pub reads-none : {holds : Option Files} {faults : ℕ} {names more files : List (List ℕ)} → Extends names more → ReadsFiles holds holds faults faults names more files files
+reads-none grows = reads-of refl (omega arith) grows
+
+pub reads-then : {held holds now : Option Files} {failed fails count : ℕ} {names mid more files mid_files more_files : List (List ℕ)} → ReadsFiles held holds failed fails names mid files mid_files
+    → ReadsFiles holds now fails count mid more mid_files more_files → ReadsFiles held now failed count names more files more_files
+reads-then one two = record {
+  kept = two.kept ∙ one.kept;
+  counted = omega (arith, one.counted, two.counted);
+  names = Extends-trans one.names two.names;
+  files = Extends-trans one.files two.files;
+}
 
 -- ---- a walk that is ready
 

@@ -1,5 +1,5 @@
 -- A walk of the main file, from before its first line.
-use Rattle.std.proofs.Common.{append-nil, ◌≡◌, ℕ, ◌<◌, ◌≤◌, ◌++◌, ◌&&◌, Bool, true, false, List, [], ◌∷◌, All, length, map, Option, Some, None, Result, Err, refl, sym, ap, ◌∙◌, inl, inr, subst, arith}
+use Rattle.std.proofs.Common.{append-nil, ◌≡◌, ℕ, ◌+◌, ◌<◌, ◌≤◌, ◌++◌, ◌&&◌, Bool, true, false, List, [], ◌∷◌, All, length, map, Option, Some, None, Result, Err, refl, sym, ap, ◌∙◌, inl, inr, subst, arith}
 use Rattle.std.specs.Prelude.{is_none, slice_get}
 use Rattle.c11_directives.proofs.PreLaws.{pre-unique}
 use Rattle.c11_directives.specs.Footprints.{FilesHave}
@@ -9,11 +9,12 @@ use Rattle.sc_base.specs.declared.fault.Fault as base
 use Rattle.sc_base.specs.declared.place.Place as declared
 use Rattle.sc_base.specs.Interns as interns
 use Rattle.sc_base.specs.Interns.{Interns}
+use Rattle.sc_expand.specs.Stops.{HasConfigs}
 use Rattle.sc_guarded.specs.Printable.{IsShowable, IsShowableFault}
 use Rattle.sc_model.specs.Token as plain
 use Rattle.sc_prep.proofs.EnterLeads.{HasRefusal, has-lines, has-refusal}
 use Rattle.sc_prep.proofs.EnterMoves.{refused-here, refused-not}
-use Rattle.sc_prep.proofs.Facts.{Keeps-trans, same_Some, All-append, All-cons, All-nil, All-weaker, IsConfig-Keeps, IsConfig-kept, IsTable-Extends, and_parts, both_ways, cases_Bool, faults_at-Keeps, items_at-Keeps}
+use Rattle.sc_prep.proofs.Facts.{Keeps-trans, same_Some, All-append, All-cons, All-nil, All-weaker, Extends-refl, Extends-trans, IsConfig-Keeps, IsConfig-kept, IsTable-Extends, and_parts, both_ways, cases_Bool, faults_at-Keeps, items_at-Keeps}
 use Rattle.sc_prep.proofs.FileTokens.{all-shown, faults-few}
 use Rattle.sc_prep.proofs.MainWalk.{begins-as, entered-ordinary, finds-main}
 use Rattle.sc_prep.proofs.Plain.{initial-plain}
@@ -21,6 +22,7 @@ use Rattle.sc_prep.proofs.Going.{searched}
 use Rattle.sc_prep.proofs.SharesKept.{nth-later}
 use Rattle.sc_prep.proofs.Stopping.{moments-as, stops-among, stops-as}
 use Rattle.sc_prep.proofs.Terms.{AllPass, AreApart, AreContents, AreOnceHeld, ArePlaced, ArePlainPaths, CanBeShown, Cause, Comes, ComesInside, Cond, Content, Contents, Context, Denotes, EntersAt, Extends, Fault, File, FileId, Files, Includes, IsBegun, IsBetweenRuns, IsCond, IsConfig, IsContent, IsContext, IsHeldContent, IsHeldWalk, IsOrdinary, IsOutcomeOf, IsReady, IsRefused, IsSound, IsStored, IsTable, Keeps, Leads, Machine, MacroTable, MomentsHave, Owns, OwnsList, PlainEach, Pre, Prepared, RefusesEach, Sets, Simulates, Space, Standard, State, Stop, StopsAmong, StopsAtPlace, Token, Walk, any_token, arities_of, content_at, context_of, end_of_file, end_place, entered, fault_at, faults_at, file_with, first_place, found_or, has_no_newline, has_none, initial_macros, initial_state, is_accepted, is_empty, is_plain, items_at, macros_at, option_to_list, search, seen, seen_fault, seen_place, start, text_at, unwrap_or}
+use Rattle.sc_prep.specs.MainFile.{PreparesMain}
 use Rattle.sc_prep.specs.New.{IsNew}
 use Rattle.sc_prep.specs.Pragmas.{HasNoPragma}
 use Rattle.sc_prep.proofs.Texts.{holds-none}
@@ -178,15 +180,16 @@ end-inside standard names files (content.Refused cause place) held = held
 -- ---- the walk before the first line
 
 -- the walk that was made with the first macros of a space
-pub begins-new : {s : Sets} {before names : List (List ℕ)} {walk : Walk} {table : MacroTable} (space : Space) (files : List (List ℕ)) → s.arities ≡ arities_of space → Owns s walk
-    → (walk.runs.gathered ≡ []) × (walk.runs.held.items ≡ []) × HasNoPragma s walk.runs.pragmas × (walk.runs.read ≡ []) × (walk.once.items ≡ []) × (walk.prepared.list ≡ []) × (walk.prepared.faults.items ≡ []) → walk.table ≡ table → ((s : Sets) → s.arities ≡ arities_of space → IsTable s before table)
-    → ((s : Sets) (config name : List ℕ) → s.arities ≡ arities_of space → IsConfig s.arities config → macros_at s before table config name ≡ initial_macros space config name) → Extends before names
+pub begins-new : {s : Sets} {names : List (List ℕ)} {walk : Walk} {table : MacroTable} (space : Space) → s.arities ≡ arities_of space → Owns s walk
+    → (walk.runs.gathered ≡ []) × (walk.runs.held.items ≡ []) × HasNoPragma s walk.runs.pragmas × (walk.runs.read ≡ []) × (walk.once.items ≡ []) × (walk.prepared.list ≡ []) × (walk.prepared.faults.items ≡ [])
+    → walk.table ≡ table → ((s : Sets) → s.arities ≡ arities_of space → IsTable s names table)
+    → ((s : Sets) (config name : List ℕ) → s.arities ≡ arities_of space → IsConfig s.arities config → macros_at s names table config name ≡ initial_macros space config name)
     → ((names files : List (List ℕ)) (config : List ℕ) (first : State) → IsConfig s.arities config → IsBegun s names table config first → Simulates s names files walk config (start first))
-    → IsNew s space names files walk
-begins-new {s} {before} {names} {walk} {table} space files arities owns empty same is initial grows starts = record {
+    → IsNew s space names walk
+begins-new {s} {names} {walk} {table} space arities owns empty same is initial starts = record {
   arities = arities;
   owns = owns;
-  table = subst (IsTable s names) (sym same) (IsTable-Extends grows (is s arities));
+  table = subst (IsTable s names) (sym same) (is s arities);
   gathered = empty.0;
   held = empty.1;
   pragmas = empty.2;
@@ -194,11 +197,30 @@ begins-new {s} {before} {names} {walk} {table} space files arities owns empty sa
   once = empty.4;
   list = empty.5;
   faults = empty.6;
-  starts = λ main config listed.
-      starts names files config (initial_state space main config) listed (begins-as space main config grows (is s arities) (λ name. initial s config name arities listed));
+  starts = λ {more} grows files main config listed.
+      starts more files config (initial_state space main config) listed (begins-as space main config grows (is s arities) (λ name. initial s config name arities listed));
 }
 
-module _ {s : Sets} {space : Space} {names files : List (List ℕ)} {walk : Walk} (fresh : IsNew s space names files walk) where
+-- the tables hold more
+pub new-later : {s : Sets} {space : Space} {names more : List (List ℕ)} {walk : Walk} → Extends names more → IsNew s space names walk → IsNew s space more walk
+new-later grows fresh = record {
+  arities = fresh.arities;
+  owns = fresh.owns;
+  table = IsTable-Extends grows fresh.table;
+  gathered = fresh.gathered;
+  held = fresh.held;
+  pragmas = fresh.pragmas;
+  read = fresh.read;
+  once = fresh.once;
+  list = fresh.list;
+  faults = fresh.faults;
+  starts = λ later files main config listed. fresh.starts (Extends-trans grows later) files main config listed;
+}
+
+module _ {s : Sets} {space : Space} {names : List (List ℕ)} {walk : Walk} (files : List (List ℕ)) (fresh : IsNew s space names walk) where
+  starts-here : (main config : List ℕ) → IsConfig s.arities config → Simulates s names files walk config (start (initial_state space main config))
+  starts-here main config listed = fresh.starts (Extends-refl names) files main config listed
+
   held-new : IsHeldWalk names (length files) any_token walk
   held-new = record {
     runs = holds-none fresh.gathered fresh.held fresh.read names (length files) fresh.pragmas;
@@ -219,7 +241,7 @@ module _ {s : Sets} {space : Space} {names files : List (List ℕ)} {walk : Walk
   plain-new main sound plain = record {
     each = λ config listed. (
       start (initial_state space main config),
-      fresh.starts main config listed,
+      starts-here main config listed,
       λ acting. refl,
       record { macros = initial-plain space config sound; run = tt; file = plain },
     );
@@ -239,11 +261,11 @@ module _ {s : Sets} {space : Space} {names files : List (List ℕ)} {walk : Walk
     ends-refused : (config : List ℕ) → IsConfig s.arities config → s.has fault.cond.0 config ≡ true
         → IsOutcomeOf next_sets files next.prepared config (record (start (initial_state space main config)) { fault = Some (seen_fault files fault) })
     ends-refused config listed there =
-        (refused-here keeps names files walk next fault refuses fresh.owns fresh.table config listed (start (initial_state space main config)) (fresh.starts main config listed) own there refl).prepared
+        (refused-here keeps names files walk next fault refuses fresh.owns fresh.table config listed (start (initial_state space main config)) (starts-here main config listed) own there refl).prepared
 
     ends-out : (config : List ℕ) → IsConfig s.arities config → s.has fault.cond.0 config ≡ false → IsOutcomeOf next_sets files next.prepared config (start (initial_state space main config))
     ends-out config listed out =
-        (refused-not keeps names files walk next fault refuses fresh.owns fresh.table config listed (start (initial_state space main config)) (fresh.starts main config listed) own out).prepared
+        (refused-not keeps names files walk next fault refuses fresh.owns fresh.table config listed (start (initial_state space main config)) (starts-here main config listed) own out).prepared
 
     -- what an end has at a configuration: the fault or none
     refused-few : (config : List ℕ) → IsConfig s.arities config → length (faults_at next_sets next.prepared.faults.items config) ≤ 1
@@ -299,7 +321,7 @@ module _ {s : Sets} {space : Space} {names files : List (List ℕ)} {walk : Walk
         → (n : Machine) × EntersAt x main 0 (start (initial_state space main config)) (s.has cond.0 config) n × Simulates next_sets more more_files next config n
     ends-entered config listed =
         let first = start (initial_state space main config) in
-        let end = leads.at config first listed (fresh.starts main config listed) (λ acting. refl) in (
+        let end = leads.at config first listed (starts-here main config listed) (λ acting. refl) in (
           end.machine,
           subst (λ name. EntersAt x name 0 first (s.has cond.0 config) end.machine) (ap (λ (o : Option (List ℕ)). unwrap_or o []) named) end.done,
           end.simulates,
@@ -348,8 +370,8 @@ module _ {s : Sets} {space : Space} {names files : List (List ℕ)} {walk : Walk
       (λ k comes.
       let inside = subst (λ name. ComesInside (context_of space outside) name 0 first f.0.chain k) (ap (λ (o : Option (List ℕ)). unwrap_or o []) named) comes in
       record { file = inside.file; found = finds-main outside main inside.file inside.named inside.there; reaches = inside.reaches })
-      (comes first (fresh.starts main config one.formed) (λ acting. refl)).1)
-      (stops-among limit stop (λ config f listed comes. record { formed = listed; has = (comes (start (initial_state space main config)) (fresh.starts main config listed) (λ acting. refl)).0 }) stops)
+      (comes first (starts-here main config one.formed) (λ acting. refl)).1)
+      (stops-among limit stop (λ config f listed comes. record { formed = listed; has = (comes (start (initial_state space main config)) (starts-here main config listed) (λ acting. refl)).0 }) stops)
 
   -- what it puts out of a token
   pub entered-thin : {next_sets t : Sets} (next : Walk) (keeps : Keeps s next_sets) (later : Keeps next_sets t) (main : List ℕ) (outside : Files) (file : FileId) (cond : Cond) → slice_get files file.0 ≡ Some main → OwnsList next_sets next.prepared
@@ -361,7 +383,7 @@ module _ {s : Sets} {space : Space} {names files : List (List ℕ)} {walk : Walk
         let q = IsConfig-kept (Keeps-trans keeps later) now_d in
         let mine = was c p live in
         let theirs = was d q live_d in
-        let have = puts c d p q mine.0 theirs.0 (start (initial_state space main c)) (start (initial_state space main d)) (fresh.starts main c p) (fresh.starts main d q) (λ acting. refl) (λ acting. refl)
+        let have = puts c d p q mine.0 theirs.0 (start (initial_state space main c)) (start (initial_state space main d)) (starts-here main c p) (starts-here main d q) (λ acting. refl) (λ acting. refl)
         f.0.chain one.line two.line one.state two.state (f.0.spot, f.1) index n m (mine.1, inside one.reaches) (theirs.1, inside two.reaches) one.puts two.puts in
         subst (λ list. HaveOne t list c d n m) (append-nil next.prepared.list)
         (have.0, nth-later later c (IsConfig-Keeps keeps p) next.prepared.list [] owns.list n have.0 have.1, nth-later later d (IsConfig-Keeps keeps q) next.prepared.list [] owns.list m have.0 have.2);
@@ -383,3 +405,74 @@ module _ {s : Sets} {space : Space} {names files : List (List ℕ)} {walk : Walk
         again = refl;
         reaches = reaches.reaches;
       }
+
+-- ---- what the walk leaves, whose live configurations are those of a condition, with its end
+
+module _ {s next_sets t : Sets} {space : Space} {names more files more_files : List (List ℕ)} {walk next : Walk} {standard : Standard} {told : Option Files} {contents : Contents}
+    (fresh : IsNew s space names walk) (keeps : Keeps s next_sets) (later : Keeps next_sets t) (main : List ℕ) (file : FileId) (named : slice_get files file.0 ≡ Some main)
+    (live : Cond) (own : IsCond s live.0) (outside : Files)
+    (leads : Leads files names s walk more_files more next_sets next IsBetweenRuns (λ config m n. EntersAt (context_of space outside) (text_at files file.0) 0 m (s.has live.0 config) n))
+    (ready : IsReady standard next_sets more more_files told next contents)
+    (met : Cond) (is : Denotes t met.0 (λ c. next_sets.has next.prepared.live.0 c && next_sets.has live.0 c)) (end : declared.Place) where
+  abbrev limited_main : Prepared
+  limited_main = record next.prepared { live = met; end = end }
+
+  now-live : (config : List ℕ) → IsConfig s.arities config → s.has live.0 config ≡ next_sets.has live.0 config
+  now-live config listed = sym (keeps.at live.0 config own listed)
+
+  was-live : (config : List ℕ) → IsConfig s.arities config → t.has met.0 config ≡ true → (next_sets.has next.prepared.live.0 config ≡ true) × (s.has live.0 config ≡ true)
+  was-live config listed now =
+      let was = limited-was later more more_files next.prepared ready.owns.prepared live.0 met is config (IsConfig-Keeps keeps listed) now in
+      (was.0, now-live config listed ∙ was.1)
+
+  ordinary-main : (config : List ℕ) → IsConfig s.arities config → s.has live.0 config ≡ true → IsOrdinary t more more_files limited_main (Pre space outside main config) config
+  ordinary-main config listed there =
+      IsOrdinary-end (record next.prepared { live = met }) end
+      (limited-ordinary later more more_files next.prepared ready.owns.prepared live.0 met is config (IsConfig-Keeps keeps listed) (sym (now-live config listed) ∙ there)
+      (entered-is files fresh keeps main outside file live named leads config listed there))
+
+  out-main : (config : List ℕ) → IsConfig s.arities config → s.has live.0 config ≡ false → IsLeftOut t limited_main config
+  out-main config listed out =
+      let left = limited-out later more more_files next.prepared ready.owns.prepared live.0 met is config (IsConfig-Keeps keeps listed) (sym (now-live config listed) ∙ out)
+      (entered-out files fresh keeps main file live named leads config listed out) in
+      record { faults = left.faults; live = left.live }
+
+  live-main : (config : List ℕ) → IsConfig s.arities config → t.has met.0 config ≡ (s.has live.0 config && has_none t next.prepared.faults.items config)
+  live-main config listed =
+      limited-live later more more_files next.prepared ready.owns.prepared live.0 met is config (IsConfig-Keeps keeps listed) (entered-live files fresh keeps main file live named leads config listed)
+      ∙ ap (λ b. b && has_none t next.prepared.faults.items config) (sym (now-live config listed))
+
+  shown-main : AllPass (is_plain more) next.prepared.list → ArePlainPaths more_files → CanBeShown t more more_files limited_main
+  shown-main plain paths =
+      CanBeShown-end (record next.prepared { live = met }) end
+      (limited-shown later more more_files next.prepared ready.owns.prepared live.0 met is (entered-shown files fresh keeps main file live named leads ready plain paths))
+
+  owns-main : OwnsList t limited_main
+  owns-main =
+      let limited = limited-owns later more more_files next.prepared ready.owns.prepared live.0 met is in
+      record { list = limited.list; faults = limited.faults; live = limited.live }
+
+  pub prepares-main : {holds : Option Files} → ((files : Files) → holds ≡ Some files → outside ≡ files)
+      → ((HasConfigs s.arities (space.branches + 1) → ⊥) → WherePutOut files names s walk IsBetweenRuns
+      (λ config m chain k. (s.has live.0 config ≡ true) × ComesInside (context_of space outside) (text_at files file.0) 0 m chain k) next_sets next (λ c d index. HaveOne next_sets next.prepared.list c d))
+      → ((bytes config : List ℕ) → outside main ≡ Some bytes → IsOrdinary next_sets more more_files next.prepared (Pre space outside main config) config → next_sets.has next.prepared.live.0 config ≡ true
+      → seen_place more_files end ≡ end_of_file main bytes)
+      → end.file.0 < length more_files
+      → (ArePlainPaths files → has_no_newline main ≡ true → AllPass (is_plain more) next.prepared.list × ArePlainPaths more_files)
+      → PreparesMain s live.0 files t more more_files limited_main space holds main
+  prepares-main tells puts ends inside plain = record {
+    ordinary = record {
+      outside = outside;
+      held = tells;
+      ordinary = ordinary-main;
+      others = out-main;
+      thin = λ few. entered-thin files fresh next keeps later main outside file live named ready.owns.prepared (puts few) met was-live;
+      ends = λ bytes config there listed now.
+          let was = was-live config listed now in
+          ends bytes config there (entered-is files fresh keeps main outside file live named leads config listed was.1) was.0;
+    };
+    end_held = inside;
+    live_is = live-main;
+    owns = owns-main;
+    shown = λ paths one_line. let both = plain paths one_line in shown-main both.0 both.1;
+  }

@@ -8,12 +8,12 @@ use Rattle.sc_base.specs.declared.place.Place.{Place}
 use Rattle.sc_base.specs.declared.token.Token.{Token}
 use Rattle.sc_model.specs.Token as plain
 use Rattle.sc_prep.proofs.ComesBack.{comes-back}
-use Rattle.sc_prep.proofs.EnterLeads.{HasLines, both-enter, enters-again, outside-list, stays}
+use Rattle.sc_prep.proofs.EnterLeads.{HasLines, outside-list, stays}
 use Rattle.sc_prep.proofs.EnterMoves.{acts-unfaulty, begins-start, entering}
-use Rattle.sc_prep.proofs.Facts.{Extends-refl, IsConfig-Keeps, IsTable-Keeps, Keeps-trans, faults_at-Keeps, items_at-Keeps, length-map, macros_at-Keeps, same_Some}
+use Rattle.sc_prep.proofs.Facts.{Extends-refl, IsConfig-Keeps, Keeps-trans, faults_at-Keeps, items_at-Keeps, length-map, macros_at-Keeps, same_Some}
 use Rattle.sc_prep.proofs.SettledText.{text-empty}
 use Rattle.sc_prep.proofs.SharesKept.{nth-later, shares-kept}
-use Rattle.sc_prep.proofs.Terms.{Around, Begins, Cause, ComesInside, ComesOver, Cond, Context, Covers, Denotes, EntersAt, Entry, Extends, Fault, File, FileLines, IsAtTop, IsBetweenRuns, IsConfig, IsHeldWalk, IsNever, IsStored, IsTable, Keeps, Leads, Leaves, Machine, OpenRuns, Owns, RefusesEach, Sets, Simulates, Standard, Walk, acts, any_token, file_with, has_none, is_empty, is_once_file, items_at, macros_at, once_at, seen, seen_lines, start, text_at}
+use Rattle.sc_prep.proofs.Terms.{Around, Begins, Cause, ComesInside, ComesOver, Cond, Context, Covers, Denotes, EntersAt, Entry, Extends, Fault, File, FileLines, IsAtTop, IsBetweenRuns, IsConfig, IsHeldWalk, IsNever, IsStored, IsTable, Keeps, Leads, Leaves, Machine, OpenRuns, Owns, RefusesEach, Sets, Simulates, Standard, Walk, acts, any_token, file_with, has_none, is_empty, items_at, macros_at, once_at, seen, seen_lines, start, text_at}
 use Rattle.sc_prep.specs.Includes.{elsewhere, enters, inert, left_out}
 use Rattle.sc_prep.specs.Simulates as simulates
 use Rattle.sc_prep.specs.Thin.{ComesTo, HaveOne, KeepsSharesOf, Shares, WherePutOut, one_held, other_held, put, waits}

@@ -1,5 +1,5 @@
 -- What configurations put out in a file that a line includes.
-use Rattle.std.proofs.Common.{is_none, ◌≡◌, ◌⊎◌, inl, inr, ℕ, zero, suc, ◌+◌, ◌<◌, ◌≤◌, Bool, true, false, true≢false, List, [], ◌∷◌, ◌++◌, All, AllPairs, drop, get_or, length, map, Option, None, Some, Result, Ok, Err, option_map, slice_get, refl, sym, ap, ◌∙◌, subst, arith, if◌then◌else◌, unwrap_or}
+use Rattle.std.proofs.Common.{is_none, ◌≡◌, ◌⊎◌, inl, inr, ℕ, suc, ◌+◌, ◌<◌, ◌≤◌, Bool, true, false, true≢false, List, [], ◌∷◌, ◌++◌, All, AllPairs, drop, get_or, length, map, Option, None, Some, Result, Ok, Err, option_map, slice_get, refl, sym, ap, ◌∙◌, subst, arith, if◌then◌else◌, unwrap_or}
 use Rattle.std.proofs.lemmas.Option.{slice_get-map}
 use Rattle.c11_directives.proofs.PreLaws.{run-sole, says-sole}
 use Rattle.c11_directives.specs.Footprints.{Spot, Used, footprint_at, token_itself}
@@ -23,7 +23,7 @@ use Rattle.sc_prep.proofs.SharesEntered.{entered-unfaulty, live-unfaulty}
 use Rattle.sc_prep.proofs.SharesKept.{nth-later}
 use Rattle.sc_prep.proofs.SharesThen.{any-shares, shares-led, shares-then}
 use Rattle.sc_prep.proofs.Terms.{AreOnce, Closed, ComesAt, ComesInside, ComesOver, Cond, Context, EntersAt, Entry, Extends, Fault, File, FileId, Finds, IsBetweenRuns, IsCond, IsConfig, IsIn, IsPlaced, IsStored, Keeps, Leads, Machine, Part, RunBecomes, RunExpands, Says, Sets, Simulates, SimulatesOneOf, Standard, no_line, Walk, acts, closing_run, files_at, is_once_file, search, seen_line, text_at}
-use Rattle.sc_prep.specs.Footprints.{decides, does, within}
+use Rattle.sc_prep.specs.Footprints.{does, within}
 use Rattle.sc_prep.specs.Includes as includes
 use Rattle.sc_prep.specs.Thin.{HaveOne, KeepsShares, KeepsSharesOf, Shares, WherePutOut, put}
 

@@ -24,7 +24,7 @@ use Rattle.sc_prep.proofs.Facts.{All-at, All-map, items_at-append, items_at-unde
 use Rattle.sc_prep.proofs.NameFootprints.{same-definitions as agree-by}
 use Rattle.sc_prep.proofs.PragmaMoves.{awaits-append, outside-append}
 use Rattle.sc_prep.proofs.RunsLonger.{runs-longer}
-use Rattle.sc_prep.proofs.Terms.{AreAlike, Awaited, AwaitsAt, Cond, Definition, Fault, HasText, IsAlike, Line, Machine, Macros, Sets, Simulates, StandApart, Standard, State, Token, Walk, acts, awaits, faults_at, has_none, held_at, hidden_at, is_empty, items_at, macros_at, no_operator, outside, place_alone, position_of, seen, seen_hidden, seen_line, seen_place, set_at, token_of, unhidden}
+use Rattle.sc_prep.proofs.Terms.{AreAlike, Awaited, AwaitsAt, Cond, Definition, HasText, IsAlike, Line, Machine, Macros, Sets, Simulates, StandApart, Standard, State, Token, Walk, acts, awaits, faults_at, has_none, held_at, hidden_at, is_empty, items_at, macros_at, no_operator, outside, place_alone, position_of, seen, seen_hidden, seen_line, seen_place, set_at, token_of, unhidden}
 use Rattle.sc_prep.proofs.TextPoints.{IsPoint, free-behind, is-point, told}
 use Rattle.sc_prep.proofs.Texts.{bare}
 use Rattle.sc_prep.proofs.WalkMoves.{read-walk}

@@ -151,11 +151,11 @@ module _ (space : Space) (text : List ℕ) (present : space.valid ≡ Some text)
       apart-left first_line rest.0 (subst StandApart rest.1 whole)
 
   -- too many footprints of the expression are as many of the line, before any file
-  pub fails-expression : {s : Sets} {walk : Walk} → IsNew s space more files walk → (all limit : ℕ) (stop : Stop)
+  pub fails-expression : {s : Sets} {walk : Walk} → IsNew s space more walk → (all limit : ℕ) (stop : Stop)
       → StopsStage s more files walk first_line (AskedHas s all line) limit stop → FailsValid space limit (valid.Stop stop)
   fails-expression fresh all limit stop stops = (
     subst (λ arities. StopsBy arities limit stop) fresh.arities stops.by,
     subst (λ arities. StopsAtPlace arities (ValidHas space) limit stop) fresh.arities (stops-as here_at (ValidHas space) limit stop (λ config f listed comes.
-        let asked = comes (start (initial_state space [] config)) (fresh.starts [] config listed) tt in
+        let asked = comes (start (initial_state space [] config)) (fresh.starts (Extends-refl _) _ [] config listed) tt in
         record { line = line; is_line = valid-line; outside = refl; has = of_head asked.1 }) (stops.at_place apart)),
   )

@@ -4,7 +4,7 @@ use Rattle.std.specs.List.{Contains}
 use Rattle.c11_directives.proofs.ListedLaws.{says-unique}
 use Rattle.c11_directives.specs.Listed.{IsRefusedBy, IsValidLine, SaysValid, decided}
 use Rattle.sc_base.specs.declared.fault.Fault as base
-use Rattle.sc_prep.proofs.Facts.{All-head, All-tail, IsConfig-Keeps, IsConfig-kept, true≢false}
+use Rattle.sc_prep.proofs.Facts.{All-head, All-tail, Extends-refl, IsConfig-Keeps, IsConfig-kept, true≢false}
 use Rattle.sc_prep.specs.New.{IsNew}
 use Rattle.sc_prep.proofs.Terms.{Cause, Context, Decides, DecidesAt, Fault, IsConfig, IsNever, IsOutcomeOf, Keeps, Line, Machine, Sets, Space, State, Walk, arities_of, context_of, deciding_done, deciding_fails, deciding_idle, faults_at, initial_state, seen_fault, start}
 use Rattle.sc_prep.specs.Stages.{DecidesTest}
@@ -42,7 +42,7 @@ never-none s (f ∷ fs) config listed never =
 
 -- ---- the line is decided
 
-module _ {s t : Sets} {space : Space} {names files more : List (List ℕ)} {walk next : Walk} (fresh : IsNew s space names files walk) (keeps : Keeps s t)
+module _ {s t : Sets} {space : Space} {names files more : List (List ℕ)} {walk next : Walk} (fresh : IsNew s space names walk) (keeps : Keeps s t)
     (line : Line) (is_line : IsValidLine space line) (all valid : ℕ) (everywhere : (config : List ℕ) → IsConfig s.arities config → s.has all config ≡ true)
     (decides : DecidesTest files names s walk more t next line all valid) where
   abbrev context : Context
@@ -58,7 +58,7 @@ module _ {s t : Sets} {space : Space} {names files more : List (List ℕ)} {walk
 
   says : (config : List ℕ) → IsConfig s.arities config → Says config
   says config listed =
-      let arrives = (decides.at context).simulates.at config (start (first config)) listed (fresh.starts [] config listed) in
+      let arrives = (decides.at context).simulates.at config (start (first config)) listed (fresh.starts (Extends-refl _) _ [] config listed) in
       by arrives.machine arrives.done arrives.simulates.prepared
     where
       by : (n : Machine) → DecidesAt context line (s.has all config && true) (start (first config)) (t.has valid config) n → IsOutcomeOf t files next.prepared config n → Says config

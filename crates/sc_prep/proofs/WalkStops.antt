@@ -4,10 +4,11 @@ use Rattle.c11_directives.specs.declared.directive.Directive.TheVariants as dire
 use Rattle.sc_base.specs.declared.token.Token as base
 use Rattle.sc_lines.specs.declared.line.Line as declared
 use Rattle.sc_model.specs.Token.{Token}
+use Rattle.sc_prep.specs.Going.{Gone}
 use Rattle.sc_prep.proofs.ApartLemmas.{apart-left, apart-without}
 use Rattle.sc_prep.proofs.Facts.{line-seen}
 use Rattle.sc_prep.proofs.FileStops.{comes-at, comes-included, comes-then}
-use Rattle.sc_prep.proofs.Going.{Gone, Staged, line-later, staged-between}
+use Rattle.sc_prep.proofs.Going.{Staged, line-later, staged-between}
 use Rattle.sc_prep.proofs.InFile.{top-is-in}
 use Rattle.sc_prep.proofs.IncludeLeads.{Spelled, files-next}
 use Rattle.sc_prep.proofs.LineSteps.{line-of_file, lines-all, lines-long}

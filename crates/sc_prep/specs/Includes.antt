@@ -1,5 +1,5 @@
 -- What an #include does, seen at one configuration.
-use Rattle.std.specs.Prelude.{◌≡◌, ℕ, ◌<◌, Bool, true, false, List, [], ◌∷◌, All, map, Some, Result, Ok, Err, slice_get, AllPairs}
+use Rattle.std.specs.Prelude.{◌≡◌, ℕ, ◌<◌, Bool, true, false, List, [], ◌∷◌, All, length, map, Some, Result, Ok, Err, slice_get, AllPairs}
 use Rattle.c11_directives.specs.Behind.{Says}
 use Rattle.c11_directives.specs.declared.directive.Directive.TheVariants as directive
 use Rattle.c11_directives.specs.Lines.{Line, hash_of}
@@ -28,6 +28,13 @@ pub record ArePartsOf (s : Sets) (contents : Contents) (parts : List Part) : Typ
 -- each file is entered once
 abbrev pub AreOnce : List Part → Type 0
 AreOnce parts = AllPairs (λ one other. one ≡ other → ⊥) (map (λ part. part.file) parts)
+
+-- They are files of a line at this depth, each of which is entered once, and none where files may
+-- be no deeper.
+pub record AreEntered (s : Sets) (contents : Contents) (depth deepest : ℕ) (list : List Part) : Type 0 where
+  pub parts : ArePartsOf s contents list
+  pub once : AreOnce list
+  pub deep : 0 < length list → depth < deepest
 
 -- What an #include finds at a configuration: one file, or its refusal; nothing where the machine
 -- does nothing.

@@ -7,8 +7,10 @@ pub mod Expressions
 pub mod Finding
 pub mod Footprints
 pub mod Gathered
+pub mod Going
 pub mod Includes
 pub mod Machine
+pub mod MainFile
 pub mod Naming
 pub mod New
 pub mod Once

@@ -8,6 +8,7 @@ ghost use Rattle.sc_model.specs.Outside.{Files as Outside};
 ghost use Rattle.sc_model.specs.Sets.{IsCond, IsConfig, Keeps};
 ghost use Rattle.sc_prep.specs.Contents.{Agrees, AreContents, KeepsContents, content_at};
 ghost use Rattle.sc_prep.specs.Finding.{AddsFile, AreFound, IsSearched, LooksUp, part_of};
+ghost use Rattle.sc_prep.specs.Going.{ReadsFiles};
 ghost use Rattle.sc_prep.specs.Includes.{AreOnce, ArePartsOf, files_at};
 ghost use Rattle.sc_prep.specs.Preprocesses.{ReadsNothing};
 ghost use Rattle.sc_prep.specs.Printable.{ArePlainPaths};
@@ -58,10 +59,7 @@ impl Found {
         ensures stops { IfErr result (ReadsNothing (S.faults src.old) (S.faults src.new)) }
 
         // at every outcome
-        ensures kept { S.holds src.new ≡ S.holds src.old }
-        ensures counted { S.faults src.old ≤ S.faults src.new }
-        ensures names { Extends names.old names.new }
-        ensures files { Extends files.old files.new }
+        ensures reads { ReadsFiles (S.holds src.old) (S.holds src.new) (S.faults src.old) (S.faults src.new) names.old names.new files.old files.new }
         ensures keeps { Keeps (C.sets conds.old) (C.sets conds.new) }
     {
         let mut found = Found {

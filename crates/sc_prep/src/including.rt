@@ -2,25 +2,24 @@
 ghost use Rattle.std.specs.Prelude.{◌≡◌, ◌<◌, ◌≤◌, All, List, ℕ, IfErr, IfOk, OnOk, length, true, Some, slice_get};
 ghost use Rattle.c11_directives.specs.declared.directive.Directive.{Directive};
 ghost use Rattle.c11_directives.specs.Footprints.{DirectiveHas};
-ghost use Rattle.c11_directives.specs.Pre.{Context, is_said};
+ghost use Rattle.c11_directives.specs.Pre.{is_said};
 ghost use Rattle.sc_base.specs.Seen.{text_at};
 ghost use Rattle.sc_lines.specs.Nests.{seen_line};
 ghost use Rattle.sc_model.specs.declared.standard.Standard.{Standard};
 ghost use Rattle.sc_model.specs.Growth.{Extends};
 ghost use Rattle.sc_model.specs.Sets.{IsCond, Keeps};
 ghost use Rattle.sc_model.specs.Space.{arities_of};
-ghost use Rattle.sc_prep.specs.Contents.{Agrees, KeepsContents};
-ghost use Rattle.sc_prep.specs.Includes.{AreOnce, ArePartsOf, Finds, files_at};
+ghost use Rattle.sc_prep.specs.Going.{Gone, ReadsFiles};
+ghost use Rattle.sc_prep.specs.Includes.{AreEntered, Finds, files_at};
 ghost use Rattle.sc_prep.specs.Apart.{StandApart};
 ghost use Rattle.sc_prep.specs.Footprints.{StopsWalk, any_machine};
 ghost use Rattle.sc_prep.specs.Machine.{acts, refusing_if};
 ghost use Rattle.sc_prep.specs.Naming.{ArePlainNames};
 ghost use Rattle.sc_prep.specs.Preprocesses.{Stops};
 ghost use Rattle.sc_prep.specs.Printable.{ArePlainPaths, IsPlaced, StaysHeld, is_plain};
-ghost use Rattle.sc_prep.specs.Simulates.{IsContext, IsIn, IsReady, Leads, Owns, PlainEach, SimulatesStep};
+ghost use Rattle.sc_prep.specs.Simulates.{IsIn, IsReady, Owns, PlainEach, SimulatesStep};
 ghost use Rattle.sc_prep.specs.Stages.{IsStored, NamesHeaders, StopsSaid};
 ghost use Rattle.sc_space.specs.Seen.{seen_space};
-ghost use Rattle.sc_space.specs.Sound.{IsSound};
 
 use crate::alternatives::alternatives;
 use crate::content::{Content, Contents};
@@ -63,21 +62,14 @@ impl Walk {
         requires line { 0 < length line.now }
         requires entry { entry.file.0 < length files.old }
         requires ready { IsReady space.now.standard (C.sets conds.old) names.old files.old (S.holds src.old) self.old contents.old }
-        ensures finds { IfOk result (λ parts. (x : Context) → IsContext (seen_space space.now) x
-            → Agrees space.now.standard names.new files.new x.files contents.new
-            → Leads files.old names.old (C.sets conds.old) self.old files.new names.new (C.sets conds.new) self.new (IsIn files.old entry)
-            (λ config m n. Finds x (seen_line space.now.standard names.old files.old line.now) files.new m
+        ensures goes { IfOk result (λ parts. Gone (seen_space space.now) (C.sets conds.old) names.old files.old self.old contents.old
+            (C.sets conds.new) names.new files.new self.new contents.new (All (λ token. is_plain names.old token ≡ true) line.now) (IsIn files.old entry)
+            (λ x config m n. Finds x (seen_line space.now.standard names.old files.old line.now) files.new m
             (files_at (C.sets conds.new) parts.items config) n)) }
-        ensures parts { IfOk result (λ parts. ArePartsOf (C.sets conds.new) contents.new parts.items) }
-        ensures once { IfOk result (λ parts. AreOnce parts.items) }
-        ensures deep { IfOk result (λ parts. 0 < length parts.items → entry.depth < space.now.limits.include_depth) }
+        ensures parts { IfOk result (λ parts. AreEntered (C.sets conds.new) contents.new entry.depth space.now.limits.include_depth parts.items) }
         ensures ready { OnOk result (IsReady space.now.standard (C.sets conds.new) names.new files.new (S.holds src.new) self.new contents.new) }
-        ensures list { OnOk result (self.new.prepared.list ≡ self.old.prepared.list) }
-        ensures paths { OnOk result (IsSound (seen_space space.now) → All (λ token. is_plain names.old token ≡ true) line.now → ArePlainPaths files.old
-            → PlainEach (C.sets conds.old) names.old files.old self.old (IsIn files.old entry) → ArePlainPaths files.new) }
-        ensures read { OnOk result (KeepsContents contents.old contents.new) }
+        ensures text { OnOk result ((self.new.runs ≡ self.old.runs) × (self.new.prepared.list ≡ self.old.prepared.list)) }
         ensures stops { IfErr result (Stops (C.sets conds.old).arities (seen_space space.now).branches (S.faults src.old) (S.faults src.new)) }
-        ensures runs { OnOk result (self.new.runs ≡ self.old.runs) }
         ensures footprints { (d : Directive) → (seen_line space.now.standard names.old files.old line.now).directive ≡ Some d → is_said d ≡ true
             → StandApart line.now
             → IfErr result (StopsWalk (C.sets conds.old) names.old files.old self.old any_machine
@@ -85,10 +77,7 @@ impl Walk {
             (seen_space space.now).branches) }
 
         // at every outcome
-        ensures kept { S.holds src.new ≡ S.holds src.old }
-        ensures counted { S.faults src.old ≤ S.faults src.new }
-        ensures names { Extends names.old names.new }
-        ensures files { Extends files.old files.new }
+        ensures reads { ReadsFiles (S.holds src.old) (S.holds src.new) (S.faults src.old) (S.faults src.new) names.old names.new files.old files.new }
         ensures keeps { Keeps (C.sets conds.old) (C.sets conds.new) }
     {
         let limit = space.limits.branches;

@@ -1,26 +1,24 @@
 //! The walk of a file's lines, and of the files that they include.
-ghost use Rattle.std.specs.Prelude.{◌≡◌, ℕ, ◌<◌, ◌≤◌, ◌++◌, [], List, All, length, OnOk, IfErr, Some, true, ◌+◌};
+ghost use Rattle.std.specs.Prelude.{◌≡◌, ◌<◌, ◌≤◌, ◌++◌, [], All, length, OnOk, IfErr, Some, true};
 ghost use Rattle.c11_directives.specs.Footprints.{MomentsHave};
 ghost use Rattle.c11_directives.specs.Pre.{Context};
 ghost use Rattle.c11_directives.specs.declared.directive.Directive.TheVariants as kind;
 ghost use Rattle.sc_base.specs.Seen.{text_at};
 ghost use Rattle.sc_lines.specs.Nests.{seen_line, seen_lines};
 ghost use Rattle.sc_lines.specs.Split.{directive_at};
-ghost use Rattle.sc_model.specs.Growth.{Extends};
 ghost use Rattle.sc_model.specs.Sets.{IsCond, Keeps};
-ghost use Rattle.sc_prep.specs.Contents.{Agrees, AreHeldLines, KeepsContents, content_at};
+ghost use Rattle.sc_prep.specs.Contents.{AreHeldLines, content_at};
 ghost use Rattle.sc_prep.specs.Apart.{GathersFrom, StandApart};
 ghost use Rattle.sc_prep.specs.Footprints.{ComesAt, ComesInside, ComesOver, StopsWalk};
+ghost use Rattle.sc_prep.specs.Going.{Gone, PutsOnce, ReadsFiles};
 ghost use Rattle.sc_prep.specs.Includes.{EntersAt};
 ghost use Rattle.sc_prep.specs.Machine.{Takes};
 ghost use Rattle.sc_prep.specs.Preprocesses.{Stops};
-ghost use Rattle.sc_prep.specs.Printable.{AllPass, ArePlainPaths, IsPlaced, is_plain};
+ghost use Rattle.sc_prep.specs.Printable.{IsPlaced, is_plain};
 ghost use Rattle.sc_prep.specs.Read.{tokens_read};
-ghost use Rattle.sc_prep.specs.Simulates.{Covers, IsAtTop, IsBetweenRuns, IsContext, IsIn, IsReady, Leads, PlainEach};
-ghost use Rattle.sc_prep.specs.Thin.{HaveOne, KeepsSharesOf, Shares, WherePutOut};
+ghost use Rattle.sc_prep.specs.Simulates.{Covers, IsAtTop, IsBetweenRuns, IsContext, IsIn, IsReady};
+ghost use Rattle.sc_prep.specs.Thin.{HaveOne, Shares};
 ghost use Rattle.sc_space.specs.Seen.{seen_space};
-ghost use Rattle.sc_space.specs.Sound.{IsSound};
-ghost use Rattle.sc_expand.specs.Stops.{HasConfigs};
 
 use crate::content::{Content, Contents, FileLines};
 use crate::entry::{Entry, deeper};
@@ -55,26 +53,14 @@ impl Walk {
         requires deep { entry.depth ≤ space.now.limits.include_depth }
         requires top { self.old.sections.items ≡ [] }
         requires ready { IsReady space.now.standard (C.sets conds.old) names.old files.old (S.holds src.old) self.old contents.old }
-        ensures covers { OnOk result ((x : Context) → IsContext (seen_space space.now) x → Agrees space.now.standard names.new files.new x.files contents.new
-            → Leads files.old names.old (C.sets conds.old) self.old files.new names.new (C.sets conds.new) self.new (IsAtTop files.old entry)
-            (λ config m n. Covers x (seen_lines space.now.standard names.old files.old file.now.tokens.items) m n)) }
-        ensures shares { OnOk result ((x : Context) → IsContext (seen_space space.now) x → Agrees space.now.standard names.new files.new x.files contents.new
-            → (HasConfigs (C.sets conds.old).arities ((seen_space space.now).branches + 1) → ⊥)
-            → KeepsSharesOf (IsAtTop files.old entry) files.old names.old (C.sets conds.old) self.old
-            files.new names.new (C.sets conds.new) self.new) }
-        ensures put { OnOk result ((x : Context) → IsContext (seen_space space.now) x → Agrees space.now.standard names.new files.new x.files contents.new
-            → (HasConfigs (C.sets conds.old).arities ((seen_space space.now).branches + 1) → ⊥) → StandApart file.now.tokens.items
-            → WherePutOut files.old names.old (C.sets conds.old) self.old (IsAtTop files.old entry)
-            (λ config m. ComesOver x (seen_lines space.now.standard names.old files.old file.now.tokens.items) m) (C.sets conds.new) self.new
+        ensures goes { OnOk result (Gone (seen_space space.now) (C.sets conds.old) names.old files.old self.old contents.old
+            (C.sets conds.new) names.new files.new self.new contents.new (Unit {0}) (IsAtTop files.old entry)
+            (λ x config m n. Covers x (seen_lines space.now.standard names.old files.old file.now.tokens.items) m n)) }
+        ensures once { OnOk result (PutsOnce (seen_space space.now) (C.sets conds.old) names.old files.old self.old
+            (C.sets conds.new) names.new files.new self.new contents.new (IsAtTop files.old entry) (StandApart file.now.tokens.items)
+            (λ x config m. ComesOver x (seen_lines space.now.standard names.old files.old file.now.tokens.items) m)
             (λ c d index. HaveOne (C.sets conds.new) self.new.prepared.list c d)) }
         ensures ready { OnOk result (IsReady space.now.standard (C.sets conds.new) names.new files.new (S.holds src.new) self.new contents.new) }
-        ensures plain { OnOk result ((x : Context) → IsContext (seen_space space.now) x → Agrees space.now.standard names.new files.new x.files contents.new
-            → IsSound (seen_space space.now) → ArePlainPaths files.old → PlainEach (C.sets conds.old) names.old files.old self.old (IsAtTop files.old entry)
-            → AllPass (is_plain names.old) self.old.prepared.list → AllPass (is_plain names.new) self.new.prepared.list) }
-        ensures paths { OnOk result ((x : Context) → IsContext (seen_space space.now) x → Agrees space.now.standard names.new files.new x.files contents.new
-            → IsSound (seen_space space.now)
-            → ArePlainPaths files.old → PlainEach (C.sets conds.old) names.old files.old self.old (IsAtTop files.old entry) → ArePlainPaths files.new) }
-        ensures read { OnOk result (KeepsContents contents.old contents.new) }
         ensures stops { IfErr result (Stops (C.sets conds.old).arities (seen_space space.now).branches (S.faults src.old) (S.faults src.new)) }
         ensures footprints { (x : Context) → IsContext (seen_space space.now) x → S.holds src.old ≡ Some x.files → self.old.runs.read ≡ []
             → StandApart file.now.tokens.items
@@ -83,10 +69,7 @@ impl Walk {
             (seen_space space.now).branches) }
 
         // at every outcome
-        ensures kept { S.holds src.new ≡ S.holds src.old }
-        ensures counted { S.faults src.old ≤ S.faults src.new }
-        ensures names { Extends names.old names.new }
-        ensures files { Extends files.old files.new }
+        ensures reads { ReadsFiles (S.holds src.old) (S.holds src.new) (S.faults src.old) (S.faults src.new) names.old names.new files.old files.new }
         ensures keeps { Keeps (C.sets conds.old) (C.sets conds.new) }
     {
         let mut number = 0;
@@ -122,27 +105,14 @@ impl Walk {
         requires entry { entry.file.0 < length files.old }
         requires deep { entry.depth ≤ space.now.limits.include_depth }
         requires ready { IsReady space.now.standard (C.sets conds.old) names.old files.old (S.holds src.old) self.old contents.old }
-        ensures takes { OnOk result ((x : Context) → IsContext (seen_space space.now) x → Agrees space.now.standard names.new files.new x.files contents.new
-            → Leads files.old names.old (C.sets conds.old) self.old files.new names.new (C.sets conds.new) self.new (IsIn files.old entry)
-            (λ config m n. Takes x m (seen_line space.now.standard names.old files.old tokens.now) n)) }
-        ensures shares { OnOk result ((x : Context) → IsContext (seen_space space.now) x → Agrees space.now.standard names.new files.new x.files contents.new
-            → (HasConfigs (C.sets conds.old).arities ((seen_space space.now).branches + 1) → ⊥)
-            → KeepsSharesOf (IsIn files.old entry) files.old names.old (C.sets conds.old) self.old
-            files.new names.new (C.sets conds.new) self.new) }
-        ensures put { OnOk result ((x : Context) → IsContext (seen_space space.now) x → Agrees space.now.standard names.new files.new x.files contents.new
-            → (HasConfigs (C.sets conds.old).arities ((seen_space space.now).branches + 1) → ⊥) → StandApart tokens.now
-            → WherePutOut files.old names.old (C.sets conds.old) self.old (IsIn files.old entry)
-            (λ config m. ComesAt x m (seen_line space.now.standard names.old files.old tokens.now)) (C.sets conds.new) self.new
+        ensures goes { OnOk result (Gone (seen_space space.now) (C.sets conds.old) names.old files.old self.old contents.old
+            (C.sets conds.new) names.new files.new self.new contents.new (All (λ token. is_plain names.old token ≡ true) tokens.now) (IsIn files.old entry)
+            (λ x config m n. Takes x m (seen_line space.now.standard names.old files.old tokens.now) n)) }
+        ensures once { OnOk result (PutsOnce (seen_space space.now) (C.sets conds.old) names.old files.old self.old
+            (C.sets conds.new) names.new files.new self.new contents.new (IsIn files.old entry) (StandApart tokens.now)
+            (λ x config m. ComesAt x m (seen_line space.now.standard names.old files.old tokens.now))
             (Shares (C.sets conds.new) names.new files.new self.new)) }
         ensures ready { OnOk result (IsReady space.now.standard (C.sets conds.new) names.new files.new (S.holds src.new) self.new contents.new) }
-        ensures plain { OnOk result ((x : Context) → IsContext (seen_space space.now) x → Agrees space.now.standard names.new files.new x.files contents.new
-            → IsSound (seen_space space.now) → All (λ token. is_plain names.old token ≡ true) tokens.now
-            → ArePlainPaths files.old → PlainEach (C.sets conds.old) names.old files.old self.old (IsIn files.old entry)
-            → AllPass (is_plain names.old) self.old.prepared.list → AllPass (is_plain names.new) self.new.prepared.list) }
-        ensures paths { OnOk result ((x : Context) → IsContext (seen_space space.now) x → Agrees space.now.standard names.new files.new x.files contents.new
-            → IsSound (seen_space space.now) → All (λ token. is_plain names.old token ≡ true) tokens.now
-            → ArePlainPaths files.old → PlainEach (C.sets conds.old) names.old files.old self.old (IsIn files.old entry) → ArePlainPaths files.new) }
-        ensures read { OnOk result (KeepsContents contents.old contents.new) }
         ensures stops { IfErr result (Stops (C.sets conds.old).arities (seen_space space.now).branches (S.faults src.old) (S.faults src.new)) }
         ensures gathers { OnOk result (GathersFrom tokens.now self.old self.new) }
         ensures footprints { (x : Context) → IsContext (seen_space space.now) x → S.holds src.old ≡ Some x.files
@@ -151,10 +121,7 @@ impl Walk {
             (λ config m. MomentsHave (ComesAt x m (seen_line space.now.standard names.old files.old tokens.now))) (seen_space space.now).branches) }
 
         // at every outcome
-        ensures kept { S.holds src.new ≡ S.holds src.old }
-        ensures counted { S.faults src.old ≤ S.faults src.new }
-        ensures names { Extends names.old names.new }
-        ensures files { Extends files.old files.new }
+        ensures reads { ReadsFiles (S.holds src.old) (S.holds src.new) (S.faults src.old) (S.faults src.new) names.old names.new files.old files.new }
         ensures keeps { Keeps (C.sets conds.old) (C.sets conds.new) }
     {
         match line.directive {
@@ -198,27 +165,14 @@ impl Walk {
         requires entry { entry.file.0 < length files.old }
         requires deep { entry.depth ≤ space.now.limits.include_depth }
         requires ready { IsReady space.now.standard (C.sets conds.old) names.old files.old (S.holds src.old) self.old contents.old }
-        ensures takes { OnOk result ((x : Context) → IsContext (seen_space space.now) x → Agrees space.now.standard names.new files.new x.files contents.new
-            → Leads files.old names.old (C.sets conds.old) self.old files.new names.new (C.sets conds.new) self.new (IsIn files.old entry)
-            (λ config m n. Takes x m (seen_line space.now.standard names.old files.old line.now) n)) }
-        ensures shares { OnOk result ((x : Context) → IsContext (seen_space space.now) x → Agrees space.now.standard names.new files.new x.files contents.new
-            → (HasConfigs (C.sets conds.old).arities ((seen_space space.now).branches + 1) → ⊥)
-            → KeepsSharesOf (IsIn files.old entry) files.old names.old (C.sets conds.old) self.old
-            files.new names.new (C.sets conds.new) self.new) }
-        ensures put { OnOk result ((x : Context) → IsContext (seen_space space.now) x → Agrees space.now.standard names.new files.new x.files contents.new
-            → (HasConfigs (C.sets conds.old).arities ((seen_space space.now).branches + 1) → ⊥) → StandApart line.now
-            → WherePutOut files.old names.old (C.sets conds.old) self.old (IsIn files.old entry)
-            (λ config m. ComesAt x m (seen_line space.now.standard names.old files.old line.now)) (C.sets conds.new) self.new
+        ensures goes { OnOk result (Gone (seen_space space.now) (C.sets conds.old) names.old files.old self.old contents.old
+            (C.sets conds.new) names.new files.new self.new contents.new (All (λ token. is_plain names.old token ≡ true) line.now) (IsIn files.old entry)
+            (λ x config m n. Takes x m (seen_line space.now.standard names.old files.old line.now) n)) }
+        ensures once { OnOk result (PutsOnce (seen_space space.now) (C.sets conds.old) names.old files.old self.old
+            (C.sets conds.new) names.new files.new self.new contents.new (IsIn files.old entry) (StandApart line.now)
+            (λ x config m. ComesAt x m (seen_line space.now.standard names.old files.old line.now))
             (Shares (C.sets conds.new) names.new files.new self.new)) }
         ensures ready { OnOk result (IsReady space.now.standard (C.sets conds.new) names.new files.new (S.holds src.new) self.new contents.new) }
-        ensures plain { OnOk result ((x : Context) → IsContext (seen_space space.now) x → Agrees space.now.standard names.new files.new x.files contents.new
-            → IsSound (seen_space space.now) → All (λ token. is_plain names.old token ≡ true) line.now
-            → ArePlainPaths files.old → PlainEach (C.sets conds.old) names.old files.old self.old (IsIn files.old entry)
-            → AllPass (is_plain names.old) self.old.prepared.list → AllPass (is_plain names.new) self.new.prepared.list) }
-        ensures paths { OnOk result ((x : Context) → IsContext (seen_space space.now) x → Agrees space.now.standard names.new files.new x.files contents.new
-            → IsSound (seen_space space.now) → All (λ token. is_plain names.old token ≡ true) line.now
-            → ArePlainPaths files.old → PlainEach (C.sets conds.old) names.old files.old self.old (IsIn files.old entry) → ArePlainPaths files.new) }
-        ensures read { OnOk result (KeepsContents contents.old contents.new) }
         ensures stops { IfErr result (Stops (C.sets conds.old).arities (seen_space space.now).branches (S.faults src.old) (S.faults src.new)) }
         ensures gathers { OnOk result (GathersFrom line.now self.old self.new) }
         ensures footprints { (x : Context) → IsContext (seen_space space.now) x → S.holds src.old ≡ Some x.files
@@ -227,10 +181,7 @@ impl Walk {
             (λ config m. MomentsHave (ComesAt x m (seen_line space.now.standard names.old files.old line.now))) (seen_space space.now).branches) }
 
         // at every outcome
-        ensures kept { S.holds src.new ≡ S.holds src.old }
-        ensures counted { S.faults src.old ≤ S.faults src.new }
-        ensures names { Extends names.old names.new }
-        ensures files { Extends files.old files.new }
+        ensures reads { ReadsFiles (S.holds src.old) (S.holds src.new) (S.faults src.old) (S.faults src.new) names.old names.new files.old files.new }
         ensures keeps { Keeps (C.sets conds.old) (C.sets conds.new) }
     {
         self.close_runs(alloc, conds, names, files, space.limits.branches)?;
@@ -279,26 +230,14 @@ impl Walk {
         requires content { content_at contents.old entry.file.0 ≡ Some (Some content.now) }
         requires deep { entry.depth ≤ space.now.limits.include_depth }
         requires ready { IsReady space.now.standard (C.sets conds.old) names.old files.old (S.holds src.old) self.old contents.old }
-        ensures enters { OnOk result ((x : Context) → IsContext (seen_space space.now) x → Agrees space.now.standard names.new files.new x.files contents.new
-            → Leads files.old names.old (C.sets conds.old) self.old files.new names.new (C.sets conds.new) self.new IsBetweenRuns
-            (λ config m n. EntersAt x (text_at files.old entry.file.0) entry.depth m ((C.sets conds.old).has cond.0 config) n)) }
-        ensures shares { OnOk result ((x : Context) → IsContext (seen_space space.now) x → Agrees space.now.standard names.new files.new x.files contents.new
-            → (HasConfigs (C.sets conds.old).arities ((seen_space space.now).branches + 1) → ⊥)
-            → KeepsSharesOf IsBetweenRuns files.old names.old (C.sets conds.old) self.old
-            files.new names.new (C.sets conds.new) self.new) }
-        ensures put { OnOk result ((x : Context) → IsContext (seen_space space.now) x → Agrees space.now.standard names.new files.new x.files contents.new
-            → (HasConfigs (C.sets conds.old).arities ((seen_space space.now).branches + 1) → ⊥)
-            → WherePutOut files.old names.old (C.sets conds.old) self.old IsBetweenRuns
-            (λ config m chain k. ((C.sets conds.old).has cond.0 config ≡ true) × ComesInside x (text_at files.old entry.file.0) entry.depth m chain k)
-            (C.sets conds.new) self.new (λ c d index. HaveOne (C.sets conds.new) self.new.prepared.list c d)) }
+        ensures goes { OnOk result (Gone (seen_space space.now) (C.sets conds.old) names.old files.old self.old contents.old
+            (C.sets conds.new) names.new files.new self.new contents.new (Unit {0}) IsBetweenRuns
+            (λ x config m n. EntersAt x (text_at files.old entry.file.0) entry.depth m ((C.sets conds.old).has cond.0 config) n)) }
+        ensures once { OnOk result (PutsOnce (seen_space space.now) (C.sets conds.old) names.old files.old self.old
+            (C.sets conds.new) names.new files.new self.new contents.new IsBetweenRuns (Unit {0})
+            (λ x config m chain k. ((C.sets conds.old).has cond.0 config ≡ true) × ComesInside x (text_at files.old entry.file.0) entry.depth m chain k)
+            (λ c d index. HaveOne (C.sets conds.new) self.new.prepared.list c d)) }
         ensures ready { OnOk result (IsReady space.now.standard (C.sets conds.new) names.new files.new (S.holds src.new) self.new contents.new) }
-        ensures plain { OnOk result ((x : Context) → IsContext (seen_space space.now) x → Agrees space.now.standard names.new files.new x.files contents.new
-            → IsSound (seen_space space.now) → ArePlainPaths files.old → PlainEach (C.sets conds.old) names.old files.old self.old IsBetweenRuns
-            → AllPass (is_plain names.old) self.old.prepared.list → AllPass (is_plain names.new) self.new.prepared.list) }
-        ensures paths { OnOk result ((x : Context) → IsContext (seen_space space.now) x → Agrees space.now.standard names.new files.new x.files contents.new
-            → IsSound (seen_space space.now)
-            → ArePlainPaths files.old → PlainEach (C.sets conds.old) names.old files.old self.old IsBetweenRuns → ArePlainPaths files.new) }
-        ensures read { OnOk result (KeepsContents contents.old contents.new) }
         ensures stops { IfErr result (Stops (C.sets conds.old).arities (seen_space space.now).branches (S.faults src.old) (S.faults src.new)) }
         ensures runs { OnOk result (self.new.runs ≡ self.old.runs) }
         ensures footprints { (x : Context) → IsContext (seen_space space.now) x → S.holds src.old ≡ Some x.files
@@ -307,10 +246,7 @@ impl Walk {
             × MomentsHave (ComesInside x (text_at files.old entry.file.0) entry.depth m) f) (seen_space space.now).branches) }
 
         // at every outcome
-        ensures kept { S.holds src.new ≡ S.holds src.old }
-        ensures counted { S.faults src.old ≤ S.faults src.new }
-        ensures names { Extends names.old names.new }
-        ensures files { Extends files.old files.new }
+        ensures reads { ReadsFiles (S.holds src.old) (S.holds src.new) (S.faults src.old) (S.faults src.new) names.old names.new files.old files.new }
         ensures keeps { Keeps (C.sets conds.old) (C.sets conds.new) }
     {
         let inside = self.entering(conds, files, cond, entry.file)?;

@@ -8,18 +8,16 @@ ghost use Rattle.sc_model.specs.Growth.{Extends};
 ghost use Rattle.sc_model.specs.Sets.{IsCond, Keeps};
 ghost use Rattle.sc_model.specs.Space.{arities_of};
 ghost use Rattle.sc_prep.specs.declared.valid.ValidStop.TheVariants as stop;
-ghost use Rattle.sc_prep.specs.New.{IsNew};
 ghost use Rattle.sc_prep.specs.Valid.{FailsValid, FindsLeast, IsValidSet, RefusesText, is_less};
 ghost use Rattle.sc_space.specs.Seen.{seen_space};
 ghost use Rattle.sc_space.specs.Sound.{IsSound};
 
 use crate::content::first_place;
 use crate::walk::Walk;
-use sc_base::{Cause, Cond, Fault, FileId, Files, Kind, Names, OutOfMemory, Place, Stop, Token};
+use sc_base::{Cause, Cond, Fault, FileId, Files, Kind, Names, OutOfMemory, Stop, Token};
 use sc_lex::{LexStop, tokens};
 use sc_presence::Conditions;
 use sc_space::Space;
-use sc_table::MacroTable;
 use std::alloc::Global;
 use thiserror::Error;
 
@@ -76,7 +74,7 @@ pub fn valid_set<C: Conditions>(
     let file = files.intern("")?;
     let tokens = if_tokens(alloc, text.as_str(), file, &mut names)?;
     let line = first_line(&tokens);
-    let mut walk = before_text(alloc, conds, space, &mut names, first_place(file))?;
+    let mut walk = Walk::before_text(alloc, conds, space, &mut names, first_place(file))?;
     let all = conds.always();
     let valid = walk.decide_expression(
         alloc,
@@ -92,27 +90,6 @@ pub fn valid_set<C: Conditions>(
         Some(cause) => Err(ValidStop::Fault(cause)),
         None => Ok(valid),
     }
-}
-
-/// The walk before the text of a space, which knows the macros alone that no file defines.
-fn before_text<C: Conditions>(
-    alloc: Global,
-    conds: &mut C,
-    space: &Space,
-    names: &mut Names,
-    end: Place,
-) -> Result<Walk, OutOfMemory>
-    requires space { (C.sets conds.old).arities ≡ arities_of (seen_space space.now) }
-    requires sound { IsSound (seen_space space.now) }
-    ensures begins { IfOk result (λ walk. (files : List (List ℕ)) → IsNew (C.sets conds.new) (seen_space space.now) names.new files walk) }
-
-    // at every outcome
-    ensures names { Extends names.old names.new }
-    ensures keeps { Keeps (C.sets conds.old) (C.sets conds.new) }
-{
-    let table = MacroTable::start(alloc, space, names)?;
-    let walk = Walk::new(alloc, conds, table, end)?;
-    Ok(walk)
 }
 
 /// The tokens of the file that is one `#if` with this text behind it.

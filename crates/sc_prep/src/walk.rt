@@ -1,23 +1,29 @@
 ghost use Rattle.std.specs.Prelude.{◌≡◌, ℕ, ◌<◌, ◌&&◌, Bool, List, length, OnOk, [], IfOk, is_none, true};
 ghost use Rattle.sc_base.specs.declared.token.Token as base;
 ghost use Rattle.sc_model.specs.declared.standard.Standard.{Standard};
+ghost use Rattle.sc_model.specs.Growth.{Extends};
+ghost use Rattle.sc_model.specs.Space.{arities_of};
 ghost use Rattle.sc_model.specs.Sets.{Sets, IsCond, IsNever, Denotes, Keeps, IsConfig};
 ghost use Rattle.c11_directives.specs.Pre.{State, with_text};
 ghost use Rattle.sc_prep.specs.Machine.{Machine, acting, acts, opened, next_branch, ended, refusing, refusing_if, start};
 ghost use Rattle.sc_prep.specs.Simulates.{IsBegun, Owns, SimulatesStep, Simulates};
 ghost use Rattle.sc_prep.specs.Apart.{GathersFrom, StandApart};
+ghost use Rattle.sc_prep.specs.New.{IsNew};
 ghost use Rattle.sc_prep.specs.Pragmas.{HasNoPragma};
 ghost use Rattle.sc_prep.specs.Preprocesses.{OwnsList};
 ghost use Rattle.sc_lines.specs.Nests.{seen_line};
 ghost use Rattle.sc_prep.specs.Printable.{StaysHeld};
 ghost use Rattle.sc_prep.specs.Thin.{KeepsShares, TextShares};
+ghost use Rattle.sc_space.specs.Seen.{seen_space};
+ghost use Rattle.sc_space.specs.Sound.{IsSound};
 
 use crate::once::OnceFile;
 use crate::open_runs::OpenRuns;
 use crate::prepared::Prepared;
-use sc_base::{Cause, Cond, Fault, OutOfMemory, Place, Token};
+use sc_base::{Cause, Cond, Fault, Names, OutOfMemory, Place, Token};
 use sc_guarded::Guarded;
 use sc_presence::Conditions;
+use sc_space::Space;
 use sc_subst::Hidden;
 use sc_table::MacroTable;
 use std::alloc::Global;
@@ -80,6 +86,34 @@ impl Walk {
                 end,
             },
         })
+    }
+
+    /// The walk before a text, which knows the macros alone that no file defines.
+    pub fn before_text<C: Conditions>(
+        alloc: Global,
+        conds: &C,
+        space: &Space,
+        names: &mut Names,
+        end: Place,
+    ) -> Result<Walk, OutOfMemory>
+        requires space { (C.sets conds.now).arities ≡ arities_of (seen_space space.now) }
+        requires sound { IsSound (seen_space space.now) }
+        ensures begins { IfOk result (IsNew (C.sets conds.now) (seen_space space.now) names.new) }
+        ensures end { IfOk result (λ walk. walk.prepared.end ≡ end) }
+
+        // at every outcome
+        ensures names { Extends names.old names.new }
+    {
+        let table = MacroTable::start(alloc, space, names)?;
+        let walk = Walk::new(alloc, conds, table, end)?;
+        Ok(walk)
+    }
+
+    /// What was put out and refused.
+    pub fn into_prepared(self) -> Prepared
+        ensures { result ≡ self.prepared }
+    {
+        self.prepared
     }
 
     /// A section begins, whose first branch is taken under a condition.

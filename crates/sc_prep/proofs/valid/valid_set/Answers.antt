@@ -2,7 +2,7 @@ use Rattle.std.proofs.Common.{◌∙◌, All, Bool, List, None, Ok, Some, ap, le
 use Rattle.std.specs.Prelude.{string_bytes}
 use Rattle.c11_directives.specs.Listed.{IsValidLine, SaysValid, absent, up_to}
 use Rattle.sc_base.specs.declared.fault.Fault.{Fault}
-use Rattle.sc_prep.proofs.Facts.{Keeps-trans, err_from_is_err_and}
+use Rattle.sc_prep.proofs.Facts.{err_from_is_err_and}
 use Rattle.sc_prep.proofs.MainFile.{stored-new}
 use Rattle.sc_prep.proofs.Terms.{AskedHas, Expression, IsCond, IsPlaced, StopsStage, Token, context_of, is_newline, option_map, seen_line, seen_space, test_of}
 use Rattle.sc_prep.proofs.valid.valid_set.Goals as goal
@@ -61,8 +61,8 @@ decide_expression-requires-clause-stored g c =
     let space = seen_space c.args.space.now in
     let files = c.intern.new.self in
     let names = c.before_text.new.names in
-    let fresh = c.in_ok-walk.ensures.begins files in
-    stored-new fresh
+    let fresh = c.in_ok-walk.ensures.begins in
+    stored-new files fresh
 
 pub returns-in_err-valid-clause-fails : goal.returns-in_err-valid-clause-fails
 returns-in_err-valid-clause-fails g c =
@@ -74,8 +74,8 @@ returns-in_err-valid-clause-fails g c =
     let tokens = c.in_ok-tokens.ensures in
     let names = c.before_text.new.names in
     let line_is : c.first_line-line.result.now ≡ up_to ends ts = c.first_line-line.ensures ∙ ap (up_to ends) c.deref.ensures.value in
-    let fresh = c.in_ok-walk.ensures.begins files in
-    let s = g.C.Conditions.sets c.before_text.new.conds in
+    let fresh = c.in_ok-walk.ensures.begins in
+    let s = g.C.Conditions.sets c.args.conds.now in
     let all = c.always-all.result.0 in
     let stop = c.in_err-valid.field-0.0 in
     let Stops : List Token → Type 0 = λ line.
@@ -102,7 +102,7 @@ returns-in-Some-2-clause-fails g c =
     let tokens = c.in_ok-tokens.ensures in
     let names = c.before_text.new.names in
     let line_is : c.first_line-line.result.now ≡ up_to ends ts = c.first_line-line.ensures ∙ ap (up_to ends) c.deref.ensures.value in
-    let fresh = c.in_ok-walk.ensures.begins files in
+    let fresh = c.in_ok-walk.ensures.begins in
     let t = g.C.Conditions.sets c.decide_expression.new.conds in
     let line = seen_line space.standard names files c.first_line-line.result.now in
     let is_line : IsValidLine space line = subst (λ (ts : List Token). IsValidLine space (seen_line space.standard names files ts)) (sym line_is)
@@ -122,7 +122,7 @@ returns-clause-valid g c =
     let tokens = c.in_ok-tokens.ensures in
     let names = c.before_text.new.names in
     let line_is : c.first_line-line.result.now ≡ up_to ends ts = c.first_line-line.ensures ∙ ap (up_to ends) c.deref.ensures.value in
-    let fresh = c.in_ok-walk.ensures.begins files in
+    let fresh = c.in_ok-walk.ensures.begins in
     let t = g.C.Conditions.sets c.decide_expression.new.conds in
     let line = seen_line space.standard names files c.first_line-line.result.now in
     let is_line : IsValidLine space line = subst (λ (ts : List Token). IsValidLine space (seen_line space.standard names files ts)) (sym line_is)
@@ -138,13 +138,13 @@ returns-in_err-cause-clause-fails g c =
     rw (p.1, p.2) (tt, tt)
 
 pub returns-in_err-valid-clause-keeps : goal.returns-in_err-valid-clause-keeps
-returns-in_err-valid-clause-keeps g c = Keeps-trans c.in_ok-walk.ensures.keeps c.decide_expression.ensures.keeps
+returns-in_err-valid-clause-keeps g c = c.decide_expression.ensures.keeps
 
 pub returns-in_err-cause-clause-keeps : goal.returns-in_err-cause-clause-keeps
-returns-in_err-cause-clause-keeps g c = Keeps-trans c.in_ok-walk.ensures.keeps c.decide_expression.ensures.keeps
+returns-in_err-cause-clause-keeps g c = c.decide_expression.ensures.keeps
 
 pub returns-in-Some-2-clause-keeps : goal.returns-in-Some-2-clause-keeps
-returns-in-Some-2-clause-keeps g c = Keeps-trans c.in_ok-walk.ensures.keeps c.decide_expression.ensures.keeps
+returns-in-Some-2-clause-keeps g c = c.decide_expression.ensures.keeps
 
 pub returns-clause-keeps : goal.returns-clause-keeps
-returns-clause-keeps g c = Keeps-trans c.in_ok-walk.ensures.keeps c.decide_expression.ensures.keeps
+returns-clause-keeps g c = c.decide_expression.ensures.keeps

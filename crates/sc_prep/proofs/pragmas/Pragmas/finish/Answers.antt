@@ -1,9 +1,9 @@
 use Rattle.std.proofs.Common.{◌&&◌, ◌++◌, ◌∙◌, List, All, ap, subst, sym}
 use Rattle.sc_base.specs.declared.fault.Fault.{Fault}
-use Rattle.sc_prep.proofs.Facts.{Denotes-Keeps, IsConfig-Keeps, Keeps-trans, faults_at-Keeps}
+use Rattle.sc_prep.proofs.Facts.{IsConfig-Keeps, Keeps-trans}
 use Rattle.sc_prep.proofs.PragmaMoves.{ends-operators, owns-pragmas}
-use Rattle.sc_prep.proofs.RunLemmas.{items-own, within-as, within-later}
-use Rattle.sc_prep.proofs.Terms.{Denotes, IsCond, IsWithin, fault_items, has_none, is_empty}
+use Rattle.sc_prep.proofs.RunLemmas.{items-own, within-as}
+use Rattle.sc_prep.proofs.Terms.{Denotes, IsCond, IsWithin, fault_items, has_none}
 use Rattle.sc_prep.proofs.pragmas.Pragmas.finish.Goals as goal
 
 pub without_faults-requires : goal.without_faults-requires

@@ -1,4 +1,4 @@
-use Rattle.std.proofs.Common.{◌&&◌, ◌∙◌, ap, codes, not, refl, sym, unwrap_or}
+use Rattle.std.proofs.Common.{◌&&◌, not, refl}
 use Rattle.sc_prep.proofs.Facts.{Denotes-Keeps, Keeps-trans}
 use Rattle.sc_prep.proofs.PragmaMoves.{passes-token, told-back}
 use Rattle.sc_prep.proofs.pragmas.Pragmas.pass.Goals as goal

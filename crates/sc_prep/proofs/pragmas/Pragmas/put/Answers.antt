@@ -1,7 +1,6 @@
-use Rattle.std.proofs.Common.{◌∙◌, List, subst, sym, true≢false}
+use Rattle.std.proofs.Common.{◌∙◌, subst, sym, true≢false}
 use Rattle.sc_prep.proofs.Facts.{Keeps-trans}
 use Rattle.sc_prep.proofs.PragmaMoves.{puts-nothing, puts-operator, puts-token}
-use Rattle.sc_prep.proofs.Terms.{Cond, Token}
 use Rattle.sc_prep.specs.Pragmas.{PutsOutside}
 use Rattle.sc_prep.proofs.pragmas.Pragmas.put.Goals as goal
 

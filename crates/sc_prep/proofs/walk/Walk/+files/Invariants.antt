@@ -1,6 +1,7 @@
-use Rattle.std.proofs.Common.{◌+◌, ◌++◌, ◌-◌, ◌*◌, ◌≡◌, ◌≤◌, [], All, drop, length, take, true}
+use Rattle.std.proofs.Common.{◌+◌, ◌++◌, ◌-◌, ◌*◌, ◌≡◌, [], All, drop, length, take, true}
 use Rattle.sc_expand.specs.Stops.{HasConfigs}
-use Rattle.sc_prep.proofs.Going.{Gone, Staged}
+use Rattle.sc_prep.specs.Going.{Gone, ReadsFiles}
+use Rattle.sc_prep.proofs.Going.{Staged}
 use Rattle.sc_prep.proofs.SharedLines.{SharesLines}
 use Rattle.sc_prep.proofs.SharesIncluded.{EnteredBy}
 use Rattle.sc_prep.proofs.Terms.{Agrees, AreOnce, ArePartsOf, Context, GathersFrom, IsAtTop, IsContext, IsIn, IsReady, Runs, StandApart, files_at, is_plain, seen_line, seen_lines, seen_space, tokens_read}
@@ -31,8 +32,7 @@ invariant-walk_lines-loop-number g l = record {
   shares : (x : Context) → IsContext (seen_space l.space) x → Agrees l.space.standard l.names l.files x.files l.contents
       → (HasConfigs (g.C.Conditions.sets l.fn.conds).arities ((seen_space l.space).branches + 1) → ⊥)
       → SharesLines x l.entry l.space.standard l.file.tokens.items l.number (g.C.Conditions.sets l.fn.conds) l.fn.names l.fn.files l.fn.self (g.C.Conditions.sets l.conds) l.names l.files l.self;
-  kept : g.S.Source.holds l.src ≡ g.S.Source.holds l.fn.src;
-  counted : g.S.Source.faults l.fn.src ≤ g.S.Source.faults l.src;
+  reads : ReadsFiles (g.S.Source.holds l.fn.src) (g.S.Source.holds l.src) (g.S.Source.faults l.fn.src) (g.S.Source.faults l.src) l.fn.names l.names l.fn.files l.files;
 }
 
 abbrev pub decreases-walk_lines-loop-number : goal.decreases-walk_lines-loop-number
@@ -46,8 +46,7 @@ invariant-include_line-loop-part g l = record {
   gone : Gone (seen_space l.space) (g.C.Conditions.sets l.fn.conds) l.fn.names l.fn.files l.fn.self l.fn.contents (g.C.Conditions.sets l.conds) l.names l.files l.self l.contents (All (λ token. is_plain l.fn.names token ≡ true) l.line)
       (IsIn l.fn.files l.entry)
       (λ x config m n. Staged x (seen_line l.space.standard l.fn.names l.fn.files l.line) l.files l.entry.depth m (files_at (g.C.Conditions.sets l.conds) (drop l.part-index l.part-items) config) n);
-  kept : g.S.Source.holds l.src ≡ g.S.Source.holds l.fn.src;
-  counted : g.S.Source.faults l.fn.src ≤ g.S.Source.faults l.src;
+  reads : ReadsFiles (g.S.Source.holds l.fn.src) (g.S.Source.holds l.src) (g.S.Source.faults l.fn.src) (g.S.Source.faults l.src) l.fn.names l.names l.fn.files l.files;
   gathers : GathersFrom l.line l.fn.self l.self;
   once : AreOnce l.part-items;
   entered : (x : Context) → IsContext (seen_space l.space) x → Agrees l.space.standard l.names l.files x.files l.contents → (HasConfigs (g.C.Conditions.sets l.fn.conds).arities ((seen_space l.space).branches + 1) → ⊥)

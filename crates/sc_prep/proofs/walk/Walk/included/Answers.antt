@@ -1,13 +1,15 @@
 use Rattle.std.proofs.Common.{rules, ◌≡◌, ◌∙◌, ◌<◌, All, List, ℕ, arith, length, map, sym, ap, subst, string_bytes}
 use Rattle.sc_prep.proofs.Contents.{IsPlaced-later, contents-later}
 use Rattle.sc_prep.proofs.ExpressionMoves.{empty_context}
-use Rattle.sc_prep.proofs.Facts.{All-weaker, Extends-refl, Extends-trans, IfErr-weaker, IsTable-Extends, IsTable-Keeps, Keeps-trans}
+use Rattle.sc_prep.proofs.Facts.{All-nil, All-weaker, Extends-refl, Extends-trans, IfErr-weaker, IsTable-Extends, IsTable-Keeps, Keeps-trans}
+use Rattle.sc_prep.proofs.FindLemmas.{once-none}
 use Rattle.sc_prep.proofs.IncludeLeads.{parts-later}
-use Rattle.sc_prep.proofs.LeadMoves.{contents-stay, limit-stops, stored-ready}
-use Rattle.sc_prep.proofs.Grown.{held-later}
+use Rattle.sc_prep.proofs.LeadMoves.{contents-stay, limit-stops, reads-none, reads-then, stored-ready}
+use Rattle.sc_prep.proofs.Grown.{held-later, plain-grown}
 use Rattle.sc_prep.proofs.NamedFiles.{deep-leads, found-leads, has-hash, reading-stops, sound-plain}
 use Rattle.sc_prep.proofs.Stopping.{reading-stops-nowhere}
-use Rattle.sc_prep.proofs.Terms.{AreFound, ArePlainNames, ArePlainPaths, C11, Finds, IsCond, IsIn, IsPlaced, Leads, Named, Part, ReadsNothing, Stops, StopsAtPlace, any_token, files_at, seen_line, text_at}
+use Rattle.sc_prep.proofs.Terms.{AllPass, AreFound, AreOnce, ArePartsOf, ArePlainNames, ArePlainPaths, C11, Finds, IsCond, IsIn, IsPlaced, Leads, Named, Part, ReadsNothing, Stops, StopsAtPlace, any_token, files_at, is_plain, seen_line, text_at}
+use Rattle.sc_prep.proofs.WalkLeads.{gone-stage}
 use Rattle.sc_prep.proofs.WalkMoves.{owns-kept}
 use Rattle.sc_prep.proofs.walk.Walk.included.Goals as goal
 
@@ -32,21 +34,30 @@ refuse_all-requires-clause-owns g c = (c.in_ok-named.ensures.named.at C11 empty_
 pub returns-in_err-refuse_all-clause-keeps : goal.returns-in_err-refuse_all-clause-keeps
 returns-in_err-refuse_all-clause-keeps g c = Keeps-trans c.in_ok-named.ensures.keeps c.in_err-refuse_all.ensures.keeps
 
-pub returns-then-entry-space-clause-finds : goal.returns-then-entry-space-clause-finds
-returns-then-entry-space-clause-finds g c = λ x context agrees.
+pub returns-then-entry-space-clause-goes : goal.returns-then-entry-space-clause-goes
+returns-then-entry-space-clause-goes g c =
     let new = g.C.Conditions.sets c.refuse_all.new.conds in
     let files = c.args.files.now in
     let before = c.args.names.now in
     let line = c.args.line.now in
+    let named = c.in_ok-named.ensures in
     let hash = has-hash c.args.space.now.standard before files line c.requires.line in
+    gone-stage (Keeps-trans named.keeps c.in_ok-refuse_all.ensures.keeps) named.names
+    (λ x context agrees.
     let depth : x.include_depth ≡ c.args.space.now.limits.include_depth = context.depth in
     subst (λ (parts : List Part). Leads files before (g.C.Conditions.sets c.args.conds.now) c.args.self.now files c.named.new.names new c.refuse_all.new.self (IsIn files c.args.entry)
     (λ config m n. Finds x (seen_line c.args.space.now.standard before files line) files m (files_at new parts config) n)) (sym c.new.ensures.items)
-    (deep-leads c.args.space.now.standard x line hash.0 c.in_ok-named.named.items c.args.entry c.in_ok-named.ensures.keeps c.requires.placed hash.1 (c.in_ok-named.ensures.named.at c.args.space.now.standard x).simulates c.in_ok-named.ensures.names
-    (λ less. omega (arith, less, depth, c.if-entry-space.true)) (c.in_ok-refuse_all.ensures.moved c.args.space.now.standard c.named.new.names))
+    (deep-leads c.args.space.now.standard x line hash.0 c.in_ok-named.named.items c.args.entry named.keeps c.requires.placed hash.1 (named.named.at c.args.space.now.standard x).simulates named.names
+    (λ less. omega (arith, less, depth, c.if-entry-space.true)) (c.in_ok-refuse_all.ensures.moved c.args.space.now.standard c.named.new.names)))
+    (λ given each list. subst (AllPass (is_plain c.named.new.names)) (sym (c.in_ok-refuse_all.ensures.list ∙ (named.named.at C11 empty_context).text.list))
+    (plain-grown named.names (length files) c.args.self.now.prepared.list c.requires.ready.held.list list))
 
-pub returns-then-entry-space-clause-deep : goal.returns-then-entry-space-clause-deep
-returns-then-entry-space-clause-deep g c = λ some. absurd (omega (arith, subst (λ (parts : List Part). 0 < length parts) c.new.ensures.items some))
+pub returns-then-entry-space-clause-parts : goal.returns-then-entry-space-clause-parts
+returns-then-entry-space-clause-parts g c = record {
+  parts = subst (ArePartsOf (g.C.Conditions.sets c.refuse_all.new.conds) c.args.contents.now) (sym c.new.ensures.items) (record { own = All-nil _; kept = All-nil _ });
+  once = subst AreOnce (sym c.new.ensures.items) once-none;
+  deep = λ some. absurd (omega (arith, subst (λ (parts : List Part). 0 < length parts) c.new.ensures.items some));
+}
 
 pub returns-then-entry-space-clause-ready : goal.returns-then-entry-space-clause-ready
 returns-then-entry-space-clause-ready g c =
@@ -62,17 +73,13 @@ returns-then-entry-space-clause-ready g c =
       read = contents-later named.names (Extends-refl files) c.requires.ready.read;
     }
 
-pub returns-then-entry-space-clause-list : goal.returns-then-entry-space-clause-list
-returns-then-entry-space-clause-list g c = c.in_ok-refuse_all.ensures.list ∙ (c.in_ok-named.ensures.named.at C11 empty_context).text.list
+pub returns-then-entry-space-clause-text : goal.returns-then-entry-space-clause-text
+returns-then-entry-space-clause-text g c =
+    let text = (c.in_ok-named.ensures.named.at C11 empty_context).text in
+    (c.in_ok-refuse_all.ensures.runs ∙ text.runs, c.in_ok-refuse_all.ensures.list ∙ text.list)
 
-pub returns-then-entry-space-clause-runs : goal.returns-then-entry-space-clause-runs
-returns-then-entry-space-clause-runs g c = c.in_ok-refuse_all.ensures.runs ∙ (c.in_ok-named.ensures.named.at C11 empty_context).text.runs
-
-pub returns-then-entry-space-clause-paths : goal.returns-then-entry-space-clause-paths
-returns-then-entry-space-clause-paths g c = λ sound plain paths each. paths
-
-pub returns-then-entry-space-clause-read : goal.returns-then-entry-space-clause-read
-returns-then-entry-space-clause-read g c = contents-stay c.args.contents.now
+pub returns-then-entry-space-clause-reads : goal.returns-then-entry-space-clause-reads
+returns-then-entry-space-clause-reads g c = reads-none c.in_ok-named.ensures.names
 
 pub returns-then-entry-space-clause-keeps : goal.returns-then-entry-space-clause-keeps
 returns-then-entry-space-clause-keeps g c = Keeps-trans c.in_ok-named.ensures.keeps c.in_ok-refuse_all.ensures.keeps
@@ -94,8 +101,8 @@ returns-in_err-found-clause-stops g c =
     let new = g.S.Source.faults c.find.new.src in
     IfErr-weaker c.from_residual-in_err-found.result (ReadsNothing old new) (Stops arities limit old new) (reading-stops arities limit old new) (search rules)
 
-pub returns-in_err-found-clause-names : goal.returns-in_err-found-clause-names
-returns-in_err-found-clause-names g c = Extends-trans c.in_ok-named.ensures.names c.in_err-found.ensures.names
+pub returns-in_err-found-clause-reads : goal.returns-in_err-found-clause-reads
+returns-in_err-found-clause-reads g c = reads-then (reads-none c.in_ok-named.ensures.names) c.in_err-found.ensures.reads
 
 pub returns-in_err-found-clause-keeps : goal.returns-in_err-found-clause-keeps
 returns-in_err-found-clause-keeps g c = Keeps-trans c.in_ok-named.ensures.keeps c.in_err-found.ensures.keeps
@@ -108,14 +115,14 @@ refuse_acting-requires-clause-owns g c = owns-kept c.in_ok-found.ensures.keeps c
 pub refuse_acting-requires-clause-own : goal.refuse_acting-requires-clause-own
 refuse_acting-requires-clause-own g c = c.in_ok-found.ensures.found.missing
 
-pub returns-in_err-refuse_acting-clause-names : goal.returns-in_err-refuse_acting-clause-names
-returns-in_err-refuse_acting-clause-names g c = Extends-trans c.in_ok-named.ensures.names c.in_ok-found.ensures.names
+pub returns-in_err-refuse_acting-clause-reads : goal.returns-in_err-refuse_acting-clause-reads
+returns-in_err-refuse_acting-clause-reads g c = reads-then (reads-none c.in_ok-named.ensures.names) c.in_ok-found.ensures.reads
 
 pub returns-in_err-refuse_acting-clause-keeps : goal.returns-in_err-refuse_acting-clause-keeps
 returns-in_err-refuse_acting-clause-keeps g c = Keeps-trans c.in_ok-named.ensures.keeps (Keeps-trans c.in_ok-found.ensures.keeps c.in_err-refuse_acting.ensures.keeps)
 
-pub returns-clause-finds : goal.returns-clause-finds
-returns-clause-finds g c = λ x context agrees.
+pub returns-clause-goes : goal.returns-clause-goes
+returns-clause-goes g c =
     let old = g.C.Conditions.sets c.named.new.conds in
     let new = g.C.Conditions.sets c.find.new.conds in
     let files = c.args.files.now in
@@ -128,20 +135,35 @@ returns-clause-finds g c = λ x context agrees.
     let found = c.in_ok-found.found in
     let including = text_at files c.args.entry.file.0 in
     let hash = has-hash c.args.space.now.standard before files line c.requires.line in
-    let depth : x.include_depth ≡ c.args.space.now.limits.include_depth = context.depth in
-    let directories : map string_bytes c.deref.result.now ≡ x.include = ap (map string_bytes) c.deref.ensures.value ∙ sym context.include in
-    let of_each = subst (λ (each : List Named). AreFound c.args.space.now.standard old each including (map string_bytes c.deref.result.now) later more contents new found) c.deref-2.ensures.value c.in_ok-found.ensures.found in
-    found-leads c.args.space.now.standard x line hash.0 named.named.items c.args.entry named.ensures.keeps c.requires.placed hash.1 (named.ensures.named.at c.args.space.now.standard x).simulates named.ensures.names
-    found c.in_ok-found.ensures.keeps c.in_ok-refuse_acting.ensures.keeps c.in_ok-found.ensures.names c.in_ok-found.ensures.files (named.ensures.named.at C11 empty_context).text.held
-    (omega (arith, depth, c.if-entry-space.false)) agrees
-    (subst (λ (each : List (List ℕ)). AreFound c.args.space.now.standard old named.named.items including each later more contents new found) directories of_each)
-    (c.in_ok-refuse_acting.ensures.moved c.args.space.now.standard later)
+    let refused = c.in_ok-refuse_acting.ensures in
+    record {
+      keeps = Keeps-trans named.ensures.keeps (Keeps-trans c.in_ok-found.ensures.keeps refused.keeps);
+      names_grow = Extends-trans named.ensures.names c.in_ok-found.ensures.reads.names;
+      files_grow = c.in_ok-found.ensures.reads.files;
+      read = c.in_ok-found.ensures.read;
+      leads = λ x context agrees.
+          let depth : x.include_depth ≡ c.args.space.now.limits.include_depth = context.depth in
+          let directories : map string_bytes c.deref.result.now ≡ x.include = ap (map string_bytes) c.deref.ensures.value ∙ sym context.include in
+          let of_each = subst (λ (each : List Named). AreFound c.args.space.now.standard old each including (map string_bytes c.deref.result.now) later more contents new found) c.deref-2.ensures.value c.in_ok-found.ensures.found in
+          found-leads c.args.space.now.standard x line hash.0 named.named.items c.args.entry named.ensures.keeps c.requires.placed hash.1 (named.ensures.named.at c.args.space.now.standard x).simulates named.ensures.names
+          found c.in_ok-found.ensures.keeps c.in_ok-refuse_acting.ensures.keeps c.in_ok-found.ensures.reads.names c.in_ok-found.ensures.reads.files (named.ensures.named.at C11 empty_context).text.held
+          (omega (arith, depth, c.if-entry-space.false)) agrees
+          (subst (λ (each : List (List ℕ)). AreFound c.args.space.now.standard old named.named.items including each later more contents new found) directories of_each)
+          (c.in_ok-refuse_acting.ensures.moved c.args.space.now.standard later);
+      plain = λ spelled x context agrees sound paths each list.
+          subst (AllPass (is_plain later)) (sym (refused.list ∙ (named.ensures.named.at C11 empty_context).text.list))
+          (plain-grown (Extends-trans named.ensures.names c.in_ok-found.ensures.reads.names) (length files) c.args.self.now.prepared.list c.requires.ready.held.list list);
+      paths = λ spelled x context agrees sound paths each.
+          c.in_ok-found.ensures.paths (subst ArePlainPaths (sym (ap (map string_bytes) c.deref.ensures.value)) (sound-plain sound))
+          (subst ArePlainNames (sym c.deref-2.ensures.value) (named.ensures.plain c.args.entry spelled paths each)) paths;
+    }
 
 pub returns-clause-parts : goal.returns-clause-parts
-returns-clause-parts g c = parts-later c.in_ok-refuse_acting.ensures.keeps (contents-stay c.find.new.contents) c.in_ok-found.ensures.found.parts
-
-pub returns-clause-deep : goal.returns-clause-deep
-returns-clause-deep g c = λ some. omega (arith, c.if-entry-space.false)
+returns-clause-parts g c = record {
+  parts = parts-later c.in_ok-refuse_acting.ensures.keeps (contents-stay c.find.new.contents) c.in_ok-found.ensures.found.parts;
+  once = c.in_ok-found.ensures.once;
+  deep = λ some. omega (arith, c.if-entry-space.false);
+}
 
 pub returns-clause-ready : goal.returns-clause-ready
 returns-clause-ready g c =
@@ -152,30 +174,21 @@ returns-clause-ready g c =
     let found = c.in_ok-found.ensures in
     let moved = c.in_ok-refuse_acting.ensures.moved C11 later in
     let placed =
-    All-weaker (IsPlaced c.args.names.now (length files)) (IsPlaced later (length more)) (IsPlaced-later (Extends-trans named.names found.names) found.files) c.args.line.now c.requires.placed in
+    All-weaker (IsPlaced c.args.names.now (length files)) (IsPlaced later (length more)) (IsPlaced-later (Extends-trans named.names found.reads.names) found.reads.files) c.args.line.now c.requires.placed in
     record {
       owns = moved.owns;
-      table = moved.table (IsTable-Extends found.names (IsTable-Keeps found.keeps (named.named.at C11 empty_context).simulates.table));
-      held = c.in_ok-refuse_acting.ensures.printable later (length more) any_token placed (held-later found.names found.files c.named.new.self (named.named.at C11 empty_context).text.held);
+      table = moved.table (IsTable-Extends found.reads.names (IsTable-Keeps found.keeps (named.named.at C11 empty_context).simulates.table));
+      held = c.in_ok-refuse_acting.ensures.printable later (length more) any_token placed (held-later found.reads.names found.reads.files c.named.new.self (named.named.at C11 empty_context).text.held);
       read = found.contents;
     }
 
-pub returns-clause-list : goal.returns-clause-list
-returns-clause-list g c = c.in_ok-refuse_acting.ensures.list ∙ (c.in_ok-named.ensures.named.at C11 empty_context).text.list
+pub returns-clause-text : goal.returns-clause-text
+returns-clause-text g c =
+    let text = (c.in_ok-named.ensures.named.at C11 empty_context).text in
+    (c.in_ok-refuse_acting.ensures.runs ∙ text.runs, c.in_ok-refuse_acting.ensures.list ∙ text.list)
 
-pub returns-clause-runs : goal.returns-clause-runs
-returns-clause-runs g c = c.in_ok-refuse_acting.ensures.runs ∙ (c.in_ok-named.ensures.named.at C11 empty_context).text.runs
-
-pub returns-clause-paths : goal.returns-clause-paths
-returns-clause-paths g c = λ sound plain paths each.
-    c.in_ok-found.ensures.paths (subst ArePlainPaths (sym (ap (map string_bytes) c.deref.ensures.value)) (sound-plain sound))
-    (subst ArePlainNames (sym c.deref-2.ensures.value) (c.in_ok-named.ensures.plain c.args.entry plain paths each)) paths
-
-pub returns-clause-read : goal.returns-clause-read
-returns-clause-read g c = c.in_ok-found.ensures.read
-
-pub returns-clause-names : goal.returns-clause-names
-returns-clause-names g c = Extends-trans c.in_ok-named.ensures.names c.in_ok-found.ensures.names
+pub returns-clause-reads : goal.returns-clause-reads
+returns-clause-reads g c = reads-then (reads-none c.in_ok-named.ensures.names) c.in_ok-found.ensures.reads
 
 pub returns-clause-keeps : goal.returns-clause-keeps
 returns-clause-keeps g c = Keeps-trans c.in_ok-named.ensures.keeps (Keeps-trans c.in_ok-found.ensures.keeps c.in_ok-refuse_acting.ensures.keeps)
@@ -185,3 +198,9 @@ returns-in_err-found-clause-footprints g c = λ d directed says apart.
     let old = g.S.Source.faults c.args.src.now in
     let new = g.S.Source.faults c.find.new.src in
     IfErr-weaker c.from_residual-in_err-found.result (ReadsNothing old new) (StopsAtPlace _ _ _) (reading-stops-nowhere _ _ _ old new) (search rules)
+
+pub returns-in_err-named-clause-reads : goal.returns-in_err-named-clause-reads
+returns-in_err-named-clause-reads g c = reads-none c.in_err-named.ensures.names
+
+pub returns-in_err-refuse_all-clause-reads : goal.returns-in_err-refuse_all-clause-reads
+returns-in_err-refuse_all-clause-reads g c = reads-none c.in_ok-named.ensures.names

@@ -1,4 +1,4 @@
-use Rattle.std.proofs.Common.{◌++◌, ◌∙◌, not, ℕ, List, All, ap, refl, subst, sym}
+use Rattle.std.proofs.Common.{◌++◌, ◌∙◌, not, List, All, ap, refl, subst, sym}
 use Rattle.sc_base.specs.declared.fault.Fault.{Fault}
 use Rattle.sc_guarded.specs.declared.expanded.Expanded.{Expanded}
 use Rattle.sc_prep.proofs.EndMoves.{within-told}
