@@ -1,3 +1,5 @@
+pub mod BlockLemmas
 pub mod ItemLemmas
 mod NextLemmas
 mod RestrictionLemmas
+mod WalkLemmas

@@ -1,15 +1,19 @@
 ghost use Rattle.std.specs.Prelude.{◌≡◌, ℕ, ◌+◌, ◌<◌, ◌≤◌, List, [], ◌∷◌, ◌++◌, ◌&&◌, Some, All, AllPairs, map, take, drop, length, slice_get, if◌then◌else◌, IfOk, IfErr, OnOk, OnErr};
 ghost use Rattle.sc_model.specs.Sets.{IsConfig, IsCond, Keeps, IsNever};
+ghost use Rattle.sc_guarded.specs.Blocks.{AreBlocks, heads};
 ghost use Rattle.sc_guarded.specs.Items.{items_at};
 ghost use Rattle.sc_guarded.specs.Next.{next_at};
 
-use crate::parts::next_parts;
+use crate::blocks::{Blocks, block_ends};
+use crate::parts::{counted_parts, next_parts};
 use crate::projection::tokens_at;
 use crate::restriction::{meets, set_conditions};
+use crate::steps::Steps;
 use sc_base::{Cond, HasToken, OutOfMemory, Stop, Token};
 use sc_presence::Conditions;
 use std::alloc::Global;
 use std::marker::Model;
+use std::sync::ledger::Ledger;
 
 /// Items in order, each with the condition under which it stands. At one configuration the list is
 /// that of the items whose condition has it.
@@ -126,6 +130,52 @@ impl<T> Guarded<T> {
         ensures keeps { Keeps (C.sets conds.old) (C.sets conds.new) }
     {
         Ok(next_parts(alloc, conds, &self.items, from, cond)?)
+    }
+
+    /// Where the block of each item ends.
+    pub fn blocks<C: Conditions>(&self, alloc: Global, conds: &mut C) -> Result<Blocks, OutOfMemory>
+        requires { All (λ item. IsCond (C.sets conds.old) item.0.0) self.now }
+        ensures blocks { IfOk result (AreBlocks (C.sets conds.new) self.now) }
+
+        // at every outcome
+        ensures keeps { Keeps (C.sets conds.old) (C.sets conds.new) }
+    {
+        let ends = block_ends(alloc, conds, &self.items)?;
+        Ok(Blocks { ends })
+    }
+
+    /// Answers as `follow`. One step is one item looked at, and of each block only the item that
+    /// heads it is.
+    pub fn follow_counted<C: Conditions, L: Ledger>(
+        &self,
+        alloc: Global,
+        conds: &mut C,
+        blocks: &Blocks,
+        from: usize,
+        cond: Cond,
+        steps: &mut Steps<L>,
+    ) -> Result<Vec<(Cond, usize)>, Stop>
+        requires from { from ≤ length self.now }
+        requires own { All (λ item. IsCond (C.sets conds.old) item.0.0) self.now }
+        requires cond_own { IsCond (C.sets conds.old) cond.0 }
+        requires blocks { AreBlocks (C.sets conds.old) self.now blocks.now }
+
+        // At each configuration of `cond` the parts have one index, and elsewhere none.
+        ensures next { IfOk result (λ parts. (c : List ℕ) → IsConfig (C.sets conds.old).arities c
+            → items_at (C.sets conds.new) parts.items c
+            ≡ (if (C.sets conds.old).has cond.0 c then (from + next_at (C.sets conds.old) (drop from self.now) c) ∷ [] else [])) }
+        ensures some { IfOk result (λ parts. All (λ part. IsNever (C.sets conds.new) part.0.0 → ⊥) parts.items) }
+        ensures rising { IfOk result (λ parts. AllPairs (λ a b. a.1 < b.1) parts.items) }
+        ensures own { IfOk result (λ parts. All (λ part. IsCond (C.sets conds.new) part.0.0) parts.items) }
+        ensures counted { IfOk result (λ parts. steps.new ≡ steps.old + length (heads blocks.now from parts.items)) }
+        ensures memory { IfErr result (λ stop. stop ≡ Stop.OutOfMemory) }
+
+        // at every outcome
+        ensures keeps { Keeps (C.sets conds.old) (C.sets conds.new) }
+    {
+        let ends = &blocks.ends;
+        let parts = counted_parts(alloc, conds, &self.items, ends, from, cond, steps)?;
+        Ok(parts)
     }
 }
 

@@ -1,11 +1,14 @@
 ghost use Rattle.std.specs.Prelude.{◌≡◌, ℕ, ◌+◌, ◌≤◌, ◌&&◌, ◌++◌, ◌∷◌, [], not, List, All, drop, length, if◌then◌else◌, IfOk, OnOk};
 ghost use Rattle.sc_model.specs.Sets.{IsConfig, IsCond, Keeps};
+ghost use Rattle.sc_guarded.specs.Blocks.{AreBlocks, heads};
 ghost use Rattle.sc_guarded.specs.Items.{items_at};
 ghost use Rattle.sc_guarded.specs.Next.{next_at, ArePartsBelow};
 
+use crate::steps::Steps;
 use sc_base::{Cond, OutOfMemory};
 use sc_presence::Conditions;
 use std::alloc::Global;
+use std::sync::ledger::Ledger;
 
 /// The parts of a condition by the next item of index `from` on, each with the item's index, and
 /// with the length where there is none.
@@ -36,6 +39,50 @@ pub fn next_parts<C: Conditions, T>(
         }
         let item = &items[index];
         left = take_part(conds, &mut parts, left, item.0, index)?;
+    }
+    if conds.is_never(left) {
+        return Ok(parts);
+    }
+    parts.push((left, items.len()))?;
+    Ok(parts)
+}
+
+/// The same parts, where the block of each item is known: a block is looked at once, since its
+/// items have no configuration that its first one hasn't.
+#[tactic(auto, using(sc_model::proofs::SetLemmas::conditions))]
+pub fn counted_parts<C: Conditions, T, L: Ledger>(
+    alloc: Global,
+    conds: &mut C,
+    items: &[(Cond, T)],
+    ends: &[usize],
+    from: usize,
+    cond: Cond,
+    steps: &mut Steps<L>,
+) -> Result<Vec<(Cond, usize)>, OutOfMemory>
+    requires from { from ≤ length items.now }
+    requires own { All (λ item. IsCond (C.sets conds.old) item.0.0) items.now }
+    requires cond_own { IsCond (C.sets conds.old) cond.0 }
+    requires blocks { AreBlocks (C.sets conds.old) items.now ends.now }
+    ensures parts { IfOk result (λ parts. ArePartsBelow (C.sets conds.new) (length items.now + 1) parts.items) }
+    ensures next { IfOk result (λ parts. (c : List ℕ) → IsConfig (C.sets conds.old).arities c
+        → items_at (C.sets conds.new) parts.items c
+        ≡ (if (C.sets conds.old).has cond.0 c then (from + next_at (C.sets conds.old) (drop from items.now) c) ∷ [] else [])) }
+    ensures counted { IfOk result (λ parts. steps.new ≡ steps.old + length (heads ends.now from parts.items)) }
+
+    // at every outcome
+    ensures keeps { Keeps (C.sets conds.old) (C.sets conds.new) }
+{
+    let mut parts = Vec::new(alloc);
+    let mut left = cond;
+    let mut index = from;
+    while index < items.len() {
+        if conds.is_never(left) {
+            return Ok(parts);
+        }
+        steps.tick();
+        let item = &items[index];
+        left = take_part(conds, &mut parts, left, item.0, index)?;
+        index = ends[index];
     }
     if conds.is_never(left) {
         return Ok(parts);

@@ -1,12 +1,14 @@
-ghost use Rattle.std.specs.Prelude.{◌≡◌, ℕ, ◌∷◌, [], All, length, IfOk};
+ghost use Rattle.std.specs.Prelude.{◌≡◌, ◌<◌, ℕ, ◌∷◌, [], All, length, IfOk};
 ghost use Rattle.sc_model.specs.Sets.{IsCond};
 
 use sc_base::{Cond, FileId, Kind, Name, OutOfMemory, Place, Token};
-use sc_guarded::Guarded;
+use sc_guarded::{Guarded, Steps};
 use sc_presence::{Conditions, PlainSets};
 use sc_project::project_tokens;
 use std::alloc::Global;
+use std::marker::Brand;
 use std::process::Abort;
+use std::sync::ledger::{Blank, Ledger};
 use std::test::Fail;
 
 const TOKEN: Token = Token {
@@ -53,4 +55,32 @@ fn checks_list<C: Conditions>(rt: &impl Abort, alloc: Global, conds: &mut C) -> 
 #[test]
 fn lists(rt: HostRuntime) -> Result<(), Fail> {
     checks_list(&rt, rt.alloc(), &mut PlainSets::new(rt.alloc(), &[2])?)
+}
+
+/// The same parts, each block looked at once.
+fn checks_blocks<C: Conditions, L: Ledger>(
+    rt: &impl Abort,
+    alloc: Global,
+    conds: &mut C,
+    blank: Blank,
+) -> Result<(), Fail>
+    requires arities { (C.sets conds.old).arities ≡ 2 ∷ [] }
+    requires name { blank.name ≡ L.name }
+    requires parts { blank.parts ≡ L.parts }
+    requires some { 0 < blank.parts }
+{
+    let chosen = conds.choose(0, 1)?;
+    let list = two_tokens(alloc, conds, chosen)?;
+    let blocks = list.blocks(alloc, conds)?;
+    let mut steps = Steps::<L>::new(blank);
+    let always = conds.always();
+    let parts = list.follow_counted(alloc, conds, &blocks, 1, always, &mut steps)?;
+    assert_eq!(rt; parts.len(), 2);
+    Ok(())
+}
+
+#[test]
+fn blocks(rt: HostRuntime) -> Result<(), Fail> {
+    let mut conds = PlainSets::new(rt.alloc(), &[2])?;
+    checks_blocks::<PlainSets, Brand>(&rt, rt.alloc(), &mut conds, Blank::new(1))
 }
