@@ -15,6 +15,7 @@ use Rattle.sc_base.specs.declared.id.Cond.{Cond}
 use Rattle.sc_base.specs.declared.id.TreeId.{TreeId}
 use Rattle.sc_base.specs.declared.place.Place.{Place}
 use Rattle.sc_base.proofs.Growth.{Extends-refl, push_cases}
+use Rattle.sc_fork.proofs.ReduceEvents.{branches-Keeps}
 use Rattle.sc_fork.specs.View.{View}
 use Rattle.sc_fork.specs.declared.outcome.Outcome.{Outcome}
 use Rattle.sc_fork.specs.declared.piece.Answer.{Answer}
@@ -38,7 +39,7 @@ use Rattle.sc_model.specs.Fault.{Fault}
 use Rattle.sc_model.specs.Growth.{Extends}
 use Rattle.sc_model.specs.Sets.{Sets, IsConfig, IsCond, Keeps, IsNever}
 use Rattle.sc_model.proofs.SetLemmas.{IsConfig-kept}
-use Rattle.sc_tree.specs.Lines.{Line, choice, OwnsBranches}
+use Rattle.sc_tree.specs.Lines.{Line, branches_of, choice, OwnsBranches}
 use Rattle.sc_tree.specs.Reads.{Tables, Reads, choice_reads}
 use Rattle.sc_tree.proofs.ReadLemmas.{Reads-Grows}
 
@@ -369,3 +370,14 @@ sound-choices old new lines later roots keeps own adds at_most some sound = reco
       | inl stood ↦ kept.each i branches stood
       | inr last ↦ let e : roots ≡ branches = cc in subst (IsSoundChoice new) e (record { some = several; apart = all-apart new roots at_most; possible = some })
     ]
+
+-- the conditions of the branches are the store's, also of the choice that is added
+pub branches-choice : (old new : Sets) (lines later : List Line) (roots : List (Cond × TreeId)) → Keeps old new → OwnsBranches old lines → All (λ (root : Cond × TreeId). IsCond new root.0.0) roots
+    → AddsChoice roots lines later → OwnsBranches new later
+branches-choice old new lines _ roots keeps own owned (no_choice same) = subst (OwnsBranches new) (sym same) (branches-Keeps old new lines keeps own)
+branches-choice old new lines _ roots keeps own owned (one_choice several same) = subst (OwnsBranches new) (sym same) (record {
+  each = λ i line here. elim (push_cases lines (choice roots) i line here) [
+    | inl stood ↦ (branches-Keeps old new lines keeps own).each i line stood
+    | inr last ↦ let e : choice roots ≡ line = cc in subst (λ (l : Line). All (λ (branch : Cond × TreeId). IsCond new branch.0.0) (branches_of l)) e owned
+  ];
+})

@@ -16,6 +16,8 @@ use Rattle.sc_fork.specs.declared.source.Source.{Source}
 use Rattle.sc_fork.specs.Enabled.{IsEnabled, can_split, can_reduce, can_shift, can_classify, can_merge}
 use Rattle.sc_fork.specs.Owns.{EachIs, IsSource, OwnsCore, OwnsEnded, OwnsPiece, OwnsRow}
 use Rattle.sc_fork.specs.Pieces.{Becomes, going_of, over_of, numbers_of, without}
+use Rattle.sc_guarded.proofs.BlockLemmas.{AreBlocks-Keeps}
+use Rattle.sc_guarded.specs.Blocks.{AreBlocks}
 use Rattle.sc_merge.specs.declared.subparser.Subparser.{Subparser}
 use Rattle.sc_model.specs.Growth.{Extends}
 use Rattle.sc_model.specs.Sets.{Sets, IsCond, Keeps}
@@ -74,7 +76,7 @@ pub row-weaker : (P Q : Subparser → Type 0) → ((s : Subparser) → P s → Q
 row-weaker P Q weaker None own = own
 row-weaker P Q weaker (Some s) own = weaker s own
 
-items-own : {old new : Sets} (list : List (Cond × Token)) → Keeps old new → All (λ (item : Cond × Token). IsCond old item.0.0) list → All (λ (item : Cond × Token). IsCond new item.0.0) list
+pub items-own : {old new : Sets} (list : List (Cond × Token)) → Keeps old new → All (λ (item : Cond × Token). IsCond old item.0.0) list → All (λ (item : Cond × Token). IsCond new item.0.0) list
 items-own list keeps own = λ k d below. keeps.own _ (own k d below)
 
 -- a core owns what it did in stores that have grown
@@ -82,9 +84,20 @@ pub OwnsCore-Grows : {old new : Sets} {lines added : List Line} (core : View) �
 OwnsCore-Grows {old} {new} {lines} {added} core keeps longer own = record {
   source = own.source;
   items = items-own core.source.list.now keeps own.items;
+  blocks = AreBlocks-Keeps core.source.list.now keeps own.items own.blocks;
   rows = λ usable. All-weaker (λ (row : Option Subparser). IfSome row (OwnsRow old (length lines) core.source)) (λ (row : Option Subparser). IfSome row (OwnsRow new (length added) core.source))
       (row-weaker (OwnsRow old (length lines) core.source) (OwnsRow new (length added) core.source) (OwnsRow-Grows keeps longer core.source)) core.subparsers (own.rows usable);
   ended = λ usable. All-weaker (OwnsEnded old (length lines) core.source) (OwnsEnded new (length added) core.source) (OwnsEnded-Grows keeps longer core.source) core.ended (own.ended usable);
+}
+
+-- and what a core that is given up owns are its elements
+pub owns-given_up : {old new : Sets} {count more : ℕ} (before after : View) → Keeps old new → OwnsCore old count before → after.source ≡ before.source → (after.is_given_up ≡ false → ⊥) → OwnsCore new more after
+owns-given_up {old} {new} before after keeps own source given_up = record {
+  source = subst IsSource (sym source) own.source;
+  items = subst (λ (s : Source). All (λ (item : Cond × Token). IsCond new item.0.0) s.list.now) (sym source) (items-own before.source.list.now keeps own.items);
+  blocks = subst (λ (s : Source). AreBlocks new s.list.now s.blocks) (sym source) (AreBlocks-Keeps before.source.list.now keeps own.items own.blocks);
+  rows = λ usable. absurd (given_up usable);
+  ended = λ usable. absurd (given_up usable);
 }
 
 module _ {old new : Sets} {lines added : List Line} (before after : View) (keeps : Keeps old new) (own : OwnsCore old (length lines) before) (source : after.source ≡ before.source) where
@@ -95,6 +108,7 @@ module _ {old new : Sets} {lines added : List Line} (before after : View) (keeps
       record {
         source = subst IsSource (sym source) own.source;
         items = subst (λ (s : Source). All (λ (item : Cond × Token). IsCond new item.0.0) s.list.now) (sym source) grown.items;
+        blocks = subst (λ (s : Source). AreBlocks new s.list.now s.blocks) (sym source) grown.blocks;
         rows = λ now. subst (λ (s : Source). All (λ (row : Option Subparser). IfSome row (OwnsRow new (length added) s)) after.subparsers) (sym source)
             (subst (All Row) (sym becomes.rows)
             (All-append Row (without (numbers_of e) before.subparsers) (going_of pieces)

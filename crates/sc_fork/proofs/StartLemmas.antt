@@ -16,6 +16,7 @@ use Rattle.sc_fork.specs.Owns.{AllNumbered, IsOnPath, IsWithin, IsFirst, OwnsRow
 use Rattle.sc_fork.specs.Seen.{IsInput, IsSeen, IsSeenAt, next_unknown}
 use Rattle.sc_fork.specs.Starts.{AreFirst, no_first, one_first}
 use Rattle.sc_fork.proofs.Possible.{possible}
+use Rattle.sc_guarded.specs.Blocks.{AreBlocks}
 use Rattle.sc_merge.specs.declared.subparser.Subparser.{Subparser}
 use Rattle.sc_merge.specs.declared.subparser.Phase.{Phase}
 use Rattle.sc_merge.specs.Merges.{OwnsSubparser, OwnsValues}
@@ -101,11 +102,12 @@ first-row sets count source live s own is = record {
   path = λ c11. subst (λ (es : List Entry). IsOnPath c11.are.grammar c11.states es) (sym is.stack) (record { symbols = []; path = lowest; trees = refl });
 }
 
-pub start-owns : (sets : Sets) (count : ℕ) (begun : View) (live : Cond) → IsSource begun.source → All (λ (item : Cond × Token). IsCond sets item.0.0) begun.source.list.now → IsCond sets live.0
-    → AreFirst sets live begun.subparsers → begun.ended ≡ [] → OwnsCore sets count begun
-start-owns sets count begun live source items own first ended = record {
+pub start-owns : (sets : Sets) (count : ℕ) (begun : View) (live : Cond) → IsSource begun.source → All (λ (item : Cond × Token). IsCond sets item.0.0) begun.source.list.now
+    → AreBlocks sets begun.source.list.now begun.source.blocks → IsCond sets live.0 → AreFirst sets live begun.subparsers → begun.ended ≡ [] → OwnsCore sets count begun
+start-owns sets count begun live source items blocks own first ended = record {
   source = source;
   items = items;
+  blocks = blocks;
   rows = λ usable. by begun.subparsers first;
   ended = λ usable. subst (All (OwnsEnded sets count begun.source)) (sym ended) (All-nil (OwnsEnded sets count begun.source));
 }

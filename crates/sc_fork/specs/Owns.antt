@@ -18,6 +18,7 @@ use Rattle.sc_fork.specs.declared.piece.Piece.TheVariants.{Going, Over}
 use Rattle.sc_fork.specs.declared.source.Source.{Source}
 use Rattle.sc_fork.specs.Parsers.{AreC11Tables}
 use Rattle.sc_fork.specs.Seen.{place_of}
+use Rattle.sc_guarded.specs.Blocks.{AreBlocks}
 use Rattle.sc_kinds.specs.Kinds.{terminal_of}
 use Rattle.sc_lalr.specs.declared.tables.Tables.{Tables}
 use Rattle.sc_lalr.specs.Tables.{tables_of}
@@ -117,6 +118,7 @@ AllNumbered numbers rows = All (λ (row : Option Subparser). IfSome row (λ s. H
 pub record OwnsCore (sets : Sets) (count : ℕ) (core : View) : Type 0 where
   pub source : IsSource core.source
   pub items : All (λ (item : Cond × Token). IsCond sets item.0.0) core.source.list.now
+  pub blocks : AreBlocks sets core.source.list.now core.source.blocks
   pub rows : core.is_given_up ≡ false → All (λ (row : Option Subparser). IfSome row (OwnsRow sets count core.source)) core.subparsers
   pub ended : core.is_given_up ≡ false → All (OwnsEnded sets count core.source) core.ended
 

@@ -16,6 +16,7 @@ ghost use Rattle.sc_fork.specs.Owns.{HasC11Tables, AreNumbered, AreTerminals, Is
 ghost use Rattle.sc_fork.specs.Pieces.{AddsOwnChoices, AreInOrder, AreMade, HasMade, InNextPhase, IsPlaced, numbers_of, without};
 ghost use Rattle.sc_fork.specs.Seen.{action_in};
 ghost use Rattle.sc_fork.specs.Starts.{AreFirst};
+ghost use Rattle.sc_guarded.specs.Blocks.{AreBlocks};
 ghost use Rattle.sc_merge.specs.declared.subparser.Subparser.{Subparser};
 ghost use Rattle.sc_merge.specs.Keys.{IsKeyOf};
 ghost use Rattle.sc_merge.specs.Merges.{tables_with};
@@ -80,7 +81,7 @@ impl<'a> Core<'a> {
     /// One subparser, number 0, for the live configurations, where there are any.
     pub fn start<C: Conditions>(
         alloc: Global,
-        conds: &C,
+        conds: &mut C,
         names: &Names,
         list: &'a Guarded<Token>,
         live: Cond,
@@ -89,20 +90,23 @@ impl<'a> Core<'a> {
         standard: Standard,
     ) -> Result<Core<'a>, OutOfMemory>
         requires tables { HasC11Tables tables.now }
-        requires live { IsCond (C.sets conds.now) live.0 }
-        requires items { All (λ item. IsCond (C.sets conds.now) item.0.0) list.now }
+        requires live { IsCond (C.sets conds.old) live.0 }
+        requires items { All (λ item. IsCond (C.sets conds.old) item.0.0) list.now }
         requires held { All (λ item. IsHeld names.now item.1) list.now }
         ensures list { IfOk result (λ core. core.source.list.now ≡ list.now) }
         ensures tables { IfOk result (λ core. core.source.tables.now ≡ tables.now) }
         ensures end { IfOk result (λ core. core.source.end ≡ end) }
         ensures terminals { IfOk result (λ core. AreTerminals standard names.now list.now core.source.terminals.items) }
-        ensures start { IfOk result (λ core. (lines : List Line) (files : List (List ℕ)) → Starts (tables_with (C.sets conds.now) lines names.now files) core live) }
-        ensures own { IfOk result (λ core. (count : ℕ) → OwnsCore (C.sets conds.now) count core) }
+        ensures start { IfOk result (λ core. (lines : List Line) (files : List (List ℕ)) → Starts (tables_with (C.sets conds.new) lines names.now files) core live) }
+        ensures own { IfOk result (λ core. (count : ℕ) → OwnsCore (C.sets conds.new) count core) }
         ensures usable { IfOk result (λ core. core.is_given_up ≡ false) }
-        ensures first { IfOk result (λ core. AreFirst (C.sets conds.now) live core.subparsers) }
+        ensures first { IfOk result (λ core. AreFirst (C.sets conds.new) live core.subparsers) }
         ensures ended { IfOk result (λ core. core.ended ≡ []) }
+
+        // at every outcome
+        ensures keeps { Keeps (C.sets conds.old) (C.sets conds.new) }
     {
-        let source = Source::new(alloc, names, list, end, tables, standard)?;
+        let source = Source::new(alloc, conds, names, list, end, tables, standard)?;
         let rows = first_rows(alloc, conds, live)?;
         Ok(Core {
             source,
@@ -356,6 +360,7 @@ fn pieces_of<C: Conditions>(
 ) -> Result<Vec<Piece>, OutOfMemory>
     requires source { IsSource source.now }
     requires items { All (λ item. IsCond (C.sets conds.old) item.0.0) source.now.list.now }
+    requires blocks { AreBlocks (C.sets conds.old) source.now.list.now source.now.blocks }
     requires event { (rows : List (Option Subparser)) × ((event : Event) × IsEnabled source.now rows event enabled) }
     requires own { OwnsEnabled (C.sets conds.old) (length trees.old) source.now enabled }
     requires numbered { AreNumbered numbers.old enabled }

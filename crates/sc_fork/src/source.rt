@@ -2,43 +2,54 @@ ghost use Rattle.std.specs.Prelude.{◌≡◌, All, IfOk, option_map};
 ghost use Rattle.sc_base.specs.Seen.{IsHeld};
 ghost use Rattle.sc_fork.specs.Seen.{action_in, place_in, state_after, terminal_in};
 ghost use Rattle.sc_fork.specs.Owns.{AreTerminals};
+ghost use Rattle.sc_guarded.specs.Blocks.{AreBlocks};
+ghost use Rattle.sc_model.specs.Sets.{IsCond, Keeps};
 
 use lr_tables::{Action, Terminal};
 use sc_base::{Names, OutOfMemory, Place, Token};
 use sc_grammar::terminal as terminals;
-use sc_guarded::Guarded;
+use sc_guarded::{Blocks, Guarded};
 use sc_kinds::terminal;
 use sc_lalr::Tables;
 use sc_merge::Head;
 use sc_model::Standard;
+use sc_presence::Conditions;
 use std::alloc::Global;
 
-/// What is parsed: a list with the first terminal of each element and the place of its end, by
-/// these tables.
+/// What is parsed: a list with its blocks, the first terminal of each element and the place of its
+/// end, by these tables.
 #[derive(Drop)]
 pub struct Source<'a> {
     pub list: &'a Guarded<Token>,
+    pub blocks: Blocks,
     pub terminals: Vec<Option<Terminal>>,
     pub tables: &'a Tables,
     pub end: Place,
 }
 
 impl<'a> Source<'a> {
-    /// The list with the terminal of each element.
-    pub fn new(
+    /// The list with its blocks and the terminal of each element.
+    pub fn new<C: Conditions>(
         alloc: Global,
+        conds: &mut C,
         names: &Names,
         list: &'a Guarded<Token>,
         end: Place,
         tables: &'a Tables,
         standard: Standard,
     ) -> Result<Source<'a>, OutOfMemory>
-        requires { All (λ item. IsHeld names.now item.1) list.now }
+        requires own { All (λ item. IsCond (C.sets conds.old) item.0.0) list.now }
+        requires held { All (λ item. IsHeld names.now item.1) list.now }
         ensures list { IfOk result (λ source. source.list.now ≡ list.now) }
         ensures tables { IfOk result (λ source. source.tables.now ≡ tables.now) }
         ensures end { IfOk result (λ source. source.end ≡ end) }
         ensures terminals { IfOk result (λ source. AreTerminals standard names.now list.now source.terminals.items) }
+        ensures blocks { IfOk result (λ source. AreBlocks (C.sets conds.new) list.now source.blocks) }
+
+        // at every outcome
+        ensures keeps { Keeps (C.sets conds.old) (C.sets conds.new) }
     {
+        let blocks = list.blocks(alloc, conds)?;
         let mut first = Vec::new(alloc);
         for index in 0..list.len() {
             let token = list.item(index).1;
@@ -46,6 +57,7 @@ impl<'a> Source<'a> {
         }
         Ok(Source {
             list,
+            blocks,
             terminals: first,
             tables,
             end,

@@ -24,6 +24,7 @@ use Rattle.sc_base.specs.declared.id.Cond.{Cond}
 use Rattle.sc_base.specs.declared.place.Place.{Place}
 use Rattle.sc_base.specs.declared.token.Token.{Token}
 use Rattle.sc_base.specs.Seen.{IsHeld, seen}
+use Rattle.sc_fork.proofs.GrowLemmas.{IsInput-Grows}
 use Rattle.sc_fork.proofs.ParserLemmas.{is-parser}
 use Rattle.sc_fork.specs.declared.event.Event.{Event}
 use Rattle.sc_fork.specs.declared.outcome.Outcome.{Outcome}
@@ -42,7 +43,7 @@ use Rattle.sc_merge.specs.declared.subparser.Phase.TheVariants.{Between}
 use Rattle.sc_merge.specs.Merges.{tables_with}
 use Rattle.sc_model.specs.Fault.{Fault}
 use Rattle.sc_model.specs.Growth.{IsOneToOne}
-use Rattle.sc_model.specs.Sets.{IsCond, IsConfig, Sets}
+use Rattle.sc_model.specs.Sets.{IsCond, IsConfig, Keeps, Sets}
 use Rattle.sc_model.specs.Token as plain
 use Rattle.sc_parse.specs.declared.steps.Steps.{Steps}
 use Rattle.sc_parse.proofs.EventLemmas.{run-stands-seen}
@@ -63,7 +64,7 @@ begun-rows sets live _ (one_first t some first) zero s has = let same : t ≡ s 
 begun-rows sets live _ (one_first t some first) (suc n) s has = absurd (none-some (Some s) has)
 
 -- the core is started for the list, and nothing was done
-pub record IsStarted (sets : Sets) (names : List (List ℕ)) (list : List (Cond × Token)) (tables : code.Tables) (standard : Standard) (end : Place) (live : Cond) (s : Steps) : Type 0 where
+pub record IsStarted (given sets : Sets) (names : List (List ℕ)) (list : List (Cond × Token)) (tables : code.Tables) (standard : Standard) (end : Place) (live : Cond) (s : Steps) : Type 0 where
   pub list_is : s.core.source.list.now ≡ list
   pub tables_is : s.core.source.tables.now ≡ tables
   pub end_is : s.core.source.end ≡ end
@@ -72,15 +73,17 @@ pub record IsStarted (sets : Sets) (names : List (List ℕ)) (list : List (Cond 
   pub first : AreFirst sets live s.core.subparsers
   pub ended : s.core.ended ≡ []
   pub events : s.events.items ≡ []
-  pub own : All (λ (item : Cond × Token). IsCond sets item.0.0) list
+  pub keeps : Keeps given sets
+  pub own_live : IsCond given live.0
+  pub own : All (λ (item : Cond × Token). IsCond given item.0.0) list
   pub held : All (λ (item : Cond × Token). IsHeld names item.1) list
   pub apart : IsOneToOne names
 
-module _ (sets : Sets) (names : List (List ℕ)) (list : List (Cond × Token)) (tables : code.Tables) (standard : Standard) (end : Place) (live : Cond) (s : Steps) (is : IsStarted sets names list tables standard end live s) where
+module _ (given sets : Sets) (names : List (List ℕ)) (list : List (Cond × Token)) (tables : code.Tables) (standard : Standard) (end : Place) (live : Cond) (s : Steps) (is : IsStarted given sets names list tables standard end live s) where
   pub has-begun : HasBegun s.core
   has-begun = record { rows = begun-rows sets live s.core.subparsers is.first; none = is.ended }
 
-  module _ (lines : List Line) (files : List (List ℕ)) (input : Input) (of : IsInputOf (tables_with sets lines names files) list tables standard end live input) where
+  module _ (lines : List Line) (files : List (List ℕ)) (input : Input) (of : IsInputOf (tables_with given lines names files) list tables standard end live input) where
     abbrev of_list : (List (Cond × Token) → Type 0) → Type 0
     of_list P = P list → P s.core.source.list.now
 
@@ -93,7 +96,7 @@ module _ (sets : Sets) (names : List (List ℕ)) (list : List (Cond × Token)) (
         ∙ map-map test (λ (item : Condition × plain.Token). item.1) input.items
         ∙ ap (λ p. map (λ (item : Condition × plain.Token). p.terminal_of item.1) input.items) (sym of.parser)
 
-    is-input : IsInput (tables_with sets lines names files) s.core.source input
+    is-input : IsInput (tables_with given lines names files) s.core.source input
     is-input = record {
       standard = standard;
       states = of.states;
@@ -103,7 +106,7 @@ module _ (sets : Sets) (names : List (List ℕ)) (list : List (Cond × Token)) (
       tokens = rw is.list_is of.tokens;
       conditions = λ c config. rw is.list_is (of.conditions c config);
       terminals = terminals-are;
-      own = subst (λ (xs : List (Cond × Token)). All (λ (item : Cond × Token). IsCond sets item.0.0) xs) (sym is.list_is) is.own;
+      own = subst (λ (xs : List (Cond × Token)). All (λ (item : Cond × Token). IsCond given item.0.0) xs) (sym is.list_is) is.own;
       held = subst (λ (xs : List (Cond × Token)). All (λ (item : Cond × Token). IsHeld names item.1) xs) (sym is.list_is) is.held;
       files = subst (λ (xs : List (Cond × Token)). All (λ (item : Cond × Token). item.1.place.file.0 < length files) xs) (sym is.list_is) of.files;
       names_differ = is.apart;
@@ -111,7 +114,10 @@ module _ (sets : Sets) (names : List (List ℕ)) (list : List (Cond × Token)) (
 
     pub begins : (first : core.Core) × IsRun (tables_with sets lines names files) input first s
     begins =
-        let seen = (is.start lines files).seen input is-input of.has_live in (
+        let has_live : core.Has input input.live (sets.has live.0) =
+        λ c config. of.has_live c config ∙ sym (is.keeps.at live.0 c is.own_live (subst (λ ns. IsConfig ns c) of.arities config))
+        in
+        let seen = (is.start lines files).seen input (IsInput-Grows names files s.core.source input is.keeps is-input) has_live in (
           seen.0,
           record {
             start = seen.1.0;

@@ -15,9 +15,9 @@ pub returns : goal.returns
 returns g c =
     let s = g.C.Conditions.sets in
     let parent = c.args.parent.now in
-    let parts = c.in-Ok.parts.items in
-    let keeps = c.follow.ensures.keeps in
-    let found = c.in-Ok.ensures in
+    let parts = c.in_ok-parts.parts.items in
+    let keeps = c.next_parts.ensures.keeps in
+    let found = c.in_ok-parts.ensures in
     let same : c.whole.inside.cond ≡ parent.cond = ap (λ (p : Subparser). p.cond) (c.whole.view_is ∙ c.head-whole.ensures) in
     let next = rw same at found.next in
     let all : c.loop-part.pieces.items ≡ parts_of parent parts =
@@ -25,12 +25,12 @@ returns g c =
     in
     rw all (record {
       pieces = λ lines.
-          split-events (s c.args.conds.now) (s c.follow.new.conds) lines c.args.source.now parent c.args.from parts c.requires.phase c.requires.from keeps next found.some found.rising found.own;
-      own = split-own (s c.args.conds.now) (s c.follow.new.conds) c.args.source.now parent c.args.from parts c.requires.from keeps next found.some found.rising found.own;
+          split-events (s c.args.conds.now) (s c.next_parts.new.conds) lines c.args.source.now parent c.args.from parts c.requires.phase c.requires.from keeps next found.some found.rising found.own;
+      own = split-own (s c.args.conds.now) (s c.next_parts.new.conds) c.args.source.now parent c.args.from parts c.requires.from keeps next found.some found.rising found.own;
       numbered = λ numbers has. parts-numbered numbers parent has parts;
       phases =
           parts-look parent c.args.from (length c.args.source.now.list.now) parts
-          (parts-within (s c.args.conds.now) (s c.follow.new.conds) c.args.source.now parent c.args.from parts c.requires.from keeps next found.some found.rising);
+          (parts-within (s c.args.conds.now) (s c.next_parts.new.conds) c.args.source.now parent c.args.from parts c.requires.from keeps next found.some found.rising);
       order = parts-rise parent parts found.rising;
       keeps = keeps;
     })

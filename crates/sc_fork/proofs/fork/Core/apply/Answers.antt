@@ -1,4 +1,5 @@
 use Rattle.std.proofs.Common.{length, refl}
+use Rattle.std.proofs.lemmas.Bool.{true≢false}
 use Rattle.sc_fork.specs.Owns.{OwnsRow}
 use Rattle.sc_fork.specs.Pieces.{numbers_of}
 use Rattle.sc_fork.proofs.NumberLemmas.{rows-numbered}
@@ -6,7 +7,7 @@ use Rattle.sc_scope.specs.Numbered.{HasNumbers}
 use Rattle.sc_fork.proofs.PhaseLemmas.{makes}
 use Rattle.sc_fork.proofs.CoreLemmas.{applied}
 use Rattle.sc_fork.proofs.NodeLemmas.{adds-event, adds-none}
-use Rattle.sc_fork.proofs.OwnLemmas.{each-is, numbers-within, owns-after}
+use Rattle.sc_fork.proofs.OwnLemmas.{each-is, numbers-within, owns-after, owns-given_up}
 use Rattle.sc_fork.proofs.ReplaceLemmas.{becomes}
 use Rattle.sc_fork.proofs.SoundLemmas.{choices-sound}
 use Rattle.sc_fork.proofs.fork.Core.apply.Goals as goal
@@ -72,6 +73,12 @@ returns-clause-choices g c =
     (λ names files input seen is stands sound.
     choices-sound (s c.args.conds.now) (s c.pieces_of-pieces.new.conds) c.args.trees.now c.pieces_of-pieces.new.trees names files input _ seen c.args.event c.in-Ok.enabled
     c.pieces_of-pieces.ensures.keeps c.requires.branches is stands can c.pieces_of-pieces.ensures.choices sound)
+
+pub returns-in_default-clause-own : goal.returns-in_default-clause-own
+returns-in_default-clause-own g c = owns-given_up _ _ c.pieces_of-pieces.ensures.keeps (rw (← c.self.view_is) at c.requires.own) refl true≢false
+
+pub returns-in_default-replace-clause-own : goal.returns-in_default-replace-clause-own
+returns-in_default-replace-clause-own g c = owns-given_up _ _ c.pieces_of-pieces.ensures.keeps (rw (← c.self.view_is) at c.requires.own) refl true≢false
 
 pub returns-clause-own : goal.returns-clause-own
 returns-clause-own g c =

@@ -4,7 +4,7 @@ use Rattle.sc_base.specs.declared.id.TreeId.{TreeId}
 use Rattle.sc_fork.specs.declared.piece.Ended.{Ended}
 use Rattle.sc_fork.specs.View.{View}
 use Rattle.sc_fork.specs.Roots.{AreRoots, IsRoot, AddsChoice, faults_of, trees_of}
-use Rattle.sc_fork.proofs.OutcomeLemmas.{parts-within, faults-own, few-roots, all-satisfiable, outcome, owns-outcome, sound-choices, sound-same}
+use Rattle.sc_fork.proofs.OutcomeLemmas.{branches-choice, parts-within, faults-own, few-roots, all-satisfiable, outcome, owns-outcome, sound-choices, sound-same}
 use Rattle.sc_fork.proofs.fork.Core.result.Goals as goal
 
 pub returns-in_err-roots-clause-choices : goal.returns-in_err-roots-clause-choices
@@ -83,3 +83,15 @@ returns-clause-choices g c =
     λ names files input seen is stands sound.
     sound-choices old new lines later roots keeps c.requires.branches adds (few-roots old new lines later names files input c.args.self.now seen keeps none roots are is stands)
     (all-satisfiable old new lines later names files input c.args.self.now seen keeps none roots are is stands) sound
+
+pub returns-in_err-root-clause-branches : goal.returns-in_err-root-clause-branches
+returns-in_err-root-clause-branches g c =
+    let s = g.C.Conditions.sets in
+    branches-choice (s c.args.conds.now) (s c.roots_of.new.conds) c.args.trees.now c.root_of.new.trees c.in_ok-roots.roots.items c.in_ok-roots.ensures.keeps c.requires.branches c.in_ok-roots.ensures.roots.own
+    (subst (λ (xs : List (Cond × TreeId)). AddsChoice xs c.args.trees.now c.root_of.new.trees) c.deref-3.ensures.value c.in_err-root.ensures.adds)
+
+pub returns-clause-branches : goal.returns-clause-branches
+returns-clause-branches g c =
+    let s = g.C.Conditions.sets in
+    branches-choice (s c.args.conds.now) (s c.roots_of.new.conds) c.args.trees.now c.root_of.new.trees c.in_ok-roots.roots.items c.in_ok-roots.ensures.keeps c.requires.branches c.in_ok-roots.ensures.roots.own
+    (subst (λ (xs : List (Cond × TreeId)). AddsChoice xs c.args.trees.now c.root_of.new.trees) c.deref-3.ensures.value c.in_ok-root.ensures.adds)
