@@ -1,5 +1,5 @@
 -- What operations make: from what they make of the children, and as the diagram grows.
-use Rattle.std.proofs.Common.{◌≡◌, ◌≢◌, ℕ, ◌<◌, ◌≤◌, ◌==◌, ◌&&◌, ◌||◌, not, min, false, List, [], length, Contains, ◌⊎◌, inl, inr, refl, sym, ◌∙◌, ap, subst, arith, if◌then◌else◌}
+use Rattle.std.proofs.Common.{◌≡◌, ◌≢◌, ℕ, ◌<◌, ◌≤◌, ◌==◌, ◌&&◌, ◌||◌, not, min, false, List, length, Contains, Option, Some, ◌⊎◌, inl, inr, refl, sym, ◌∙◌, ap, subst, arith, if◌then◌else◌}
 use Rattle.std.specs.Prelude.{slice_index, slice_set}
 use Rattle.std.proofs.lemmas.Bool.{cases_Bool, cases_lt, eqb-true, eq-eqb, true≢false}
 use Rattle.std.proofs.lemmas.List.{get_or-set_other}
@@ -11,7 +11,7 @@ use Rattle.sc_diagram.specs.declared.operation.Operation.TheVariants.{And, Or, W
 use Rattle.sc_diagram.specs.declared.operation.Application.{Application}
 use Rattle.sc_diagram.specs.Diagram.{Diagram, IsDiagram, branch, branch_of, end_at, variable_of, child_of, sets_of}
 use Rattle.sc_diagram.specs.Grown.{Grows, IsChoice, only, decides}
-use Rattle.sc_diagram.specs.Applied.{combine, IsOperation, IsApplication, Applies, AppliesEach, cofactor, application_at, first_of, IsBefore, IsKnown, Adds}
+use Rattle.sc_diagram.specs.Applied.{combine, IsOperation, IsApplication, Applies, AppliesEach, cofactor, application_at, first_of, IsBefore, IsKnown, IsForgotten, Adds}
 use Rattle.sc_diagram.proofs.DiagramLemmas.{decision, has_child, has_free, has_next, own_part, later_child}
 use Rattle.sc_diagram.proofs.GrownLemmas.{branch_of-Grows, variable_of-Grows, own-Grows, has-Grows}
 
@@ -185,7 +185,7 @@ module _ {d e : Diagram} (grows : Grows d e) where
             has-Grows grows r c applies.own was ∙ applies.at c was ∙ sym (combine-Grows what.operation what.left what.right c is.operation is.left is.right was);
       }
 
-  pub IsKnown-Grows : {known : List (Application × ℕ)} → IsKnown d known → IsKnown e known
+  pub IsKnown-Grows : {known : List (Option (Application × ℕ))} → IsKnown d known → IsKnown e known
   IsKnown-Grows each = record { each = λ p has. Applies-Grows (each.each p has) }
 
   cofactor-Grows : (n v k : ℕ) → n < length d.nodes → cofactor e n v k ≡ cofactor d n v k
@@ -211,14 +211,14 @@ module _ {d e : Diagram} (grows : Grows d e) where
   IsBefore-Grows (Part w o) n own before = omega (arith, before, variable_of-Grows grows n own)
 
 -- where all is forgotten, nothing false is known
-pub IsKnown-bound : {d : Diagram} {old new : List (Application × ℕ)} → (new ≡ old) ⊎ (new ≡ []) → IsKnown d old → IsKnown d new
+pub IsKnown-bound : {d : Diagram} {old new : List (Option (Application × ℕ))} → (new ≡ old) ⊎ IsForgotten new → IsKnown d old → IsKnown d new
 IsKnown-bound {d} (inl same) known = subst (IsKnown d) (sym same) known
-IsKnown-bound {d} (inr none) known = subst (IsKnown d) (sym none) (record { each = λ e has. absurd (omega (arith, has.1)) })
+IsKnown-bound {d} (inr none) known = record { each = λ e has. absurd (none e has) }
 
 -- one more pair that is known
-pub IsKnown-Adds : {d : Diagram} {old new : List (Application × ℕ)} {what : Application} {r : ℕ} → Adds old new what r → IsKnown d old → Applies d what r → IsKnown d new
+pub IsKnown-Adds : {d : Diagram} {old new : List (Option (Application × ℕ))} {what : Application} {r : ℕ} → Adds old new what r → IsKnown d old → Applies d what r → IsKnown d new
 IsKnown-Adds {d} {old} {new} {what} {r} adds each applies = record { each = λ p has. by p (adds.each p has) }
   where
-    by : (p : Application × ℕ) → Contains old p ⊎ ((p.0 ≡ what) × (p.1 ≡ r)) → Applies d p.0 p.1
+    by : (p : Application × ℕ) → Contains old (Some p) ⊎ ((p.0 ≡ what) × (p.1 ≡ r)) → Applies d p.0 p.1
     by p (inl has) = each.each p has
     by p (inr same) = subst (λ w. Applies d w p.1) (sym same.0) (subst (Applies d what) (sym same.1) applies)

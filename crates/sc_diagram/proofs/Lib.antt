@@ -1,11 +1,11 @@
-pub mod AnswerLemmas
 pub mod AppliedLemmas
+pub mod ChainLemmas
 pub mod DecidedLemmas
 pub mod DiagramLemmas
 pub mod ExampleLemmas
 pub mod GrownLemmas
-pub mod KnownLemmas
 pub mod SimplifiedLemmas
 pub mod StepLemmas
 pub mod StoreLemmas
 pub mod TableLemmas
+pub mod UniqueLemmas

@@ -1,5 +1,5 @@
 -- Simpler nodes: one step, and as the diagram grows.
-use Rattle.std.proofs.Common.{◌≡◌, ℕ, suc, ◌+◌, ◌-◌, ◌<◌, ◌≤◌, ◌||◌, Bool, true, false, List, [], ◌∷◌, ◌++◌, length, Contains, ◌⊎◌, inl, inr, refl, sym, ◌∙◌, ap, subst, arith}
+use Rattle.std.proofs.Common.{◌≡◌, ℕ, suc, ◌+◌, ◌-◌, ◌<◌, ◌≤◌, ◌||◌, Bool, true, false, List, [], ◌∷◌, ◌++◌, length, Contains, Option, Some, ◌⊎◌, inl, inr, refl, sym, ◌∙◌, ap, subst, arith}
 use Rattle.std.specs.Prelude.{slice_index, slice_set}
 use Rattle.std.proofs.lemmas.Bool.{cases_Bool, cases_lt, false≢true}
 use Rattle.std.proofs.lemmas.List.{length_push, get_or_push, get_or_append_left}
@@ -11,7 +11,8 @@ use Rattle.sc_diagram.specs.declared.operation.Operation.TheVariants.{Or}
 use Rattle.sc_diagram.specs.Applied.{Applies, IsApplication, application, cofactor}
 use Rattle.sc_diagram.specs.Diagram.{Diagram, IsDiagram, branch, end_at, variable_of, sets_of}
 use Rattle.sc_diagram.specs.Grown.{Grows, IsChoice, only, decides}
-use Rattle.sc_diagram.specs.Simplified.{Adds, AreAnswers, HasOption, IsQuestion, IsSaid, IsWider, Simplifies, first_asked, question_at}
+use Rattle.sc_diagram.specs.Applied.{Adds, IsForgotten}
+use Rattle.sc_diagram.specs.Simplified.{AreAnswers, HasOption, IsQuestion, IsSaid, IsWider, Simplifies, first_asked, question_at}
 use Rattle.sc_diagram.proofs.AppliedLemmas.{first-le, has_cofactor, has_cofactor-set, later_cofactor, never-cofactors, own_cofactor}
 use Rattle.sc_diagram.proofs.DiagramLemmas.{differ, has_end, has_free, has_next, variable-le, variable_end}
 use Rattle.sc_diagram.proofs.GrownLemmas.{has-Grows, own-Grows, variable_of-Grows}
@@ -44,19 +45,19 @@ module _ {d e : Diagram} (grows : Grows d e) where
         subst (IsSaid e asked) (sym (has-Grows grows r c is.own was)) (IsSaid-Grows is.question (is.said some c was));
   }
 
-  pub AreAnswers-Grows : {answers : List (Question × ℕ)} → AreAnswers d answers → AreAnswers e answers
+  pub AreAnswers-Grows : {answers : List (Option (Question × ℕ))} → AreAnswers d answers → AreAnswers e answers
   AreAnswers-Grows are = record { each = λ p has. Simplifies-Grows (are.each p has) }
 
 -- where all is forgotten, no answer is wrong
-pub AreAnswers-bound : {d : Diagram} {old new : List (Question × ℕ)} → (new ≡ old) ⊎ (new ≡ []) → AreAnswers d old → AreAnswers d new
+pub AreAnswers-bound : {d : Diagram} {old new : List (Option (Question × ℕ))} → (new ≡ old) ⊎ IsForgotten new → AreAnswers d old → AreAnswers d new
 AreAnswers-bound {d} (inl same) are = subst (AreAnswers d) (sym same) are
-AreAnswers-bound {d} (inr none) are = subst (AreAnswers d) (sym none) (record { each = λ e has. absurd (omega (arith, has.1)) })
+AreAnswers-bound {d} (inr none) are = record { each = λ e has. absurd (none e has) }
 
 -- one more answer
-pub AreAnswers-Adds : {d : Diagram} {old new : List (Question × ℕ)} {asked : Question} {r : ℕ} → Adds old new asked r → AreAnswers d old → Simplifies d asked r → AreAnswers d new
+pub AreAnswers-Adds : {d : Diagram} {old new : List (Option (Question × ℕ))} {asked : Question} {r : ℕ} → Adds old new asked r → AreAnswers d old → Simplifies d asked r → AreAnswers d new
 AreAnswers-Adds {d} {old} {new} {asked} {r} adds are simplifies = record { each = λ p has. by p (adds.each p has) }
   where
-    by : (p : Question × ℕ) → Contains old p ⊎ ((p.0 ≡ asked) × (p.1 ≡ r)) → Simplifies d p.0 p.1
+    by : (p : Question × ℕ) → Contains old (Some p) ⊎ ((p.0 ≡ asked) × (p.1 ≡ r)) → Simplifies d p.0 p.1
     by p (inl has) = are.each p has
     by p (inr same) = subst (λ q. Simplifies d q p.1) (sym same.0) (subst (Simplifies d asked) (sym same.1) simplifies)
 

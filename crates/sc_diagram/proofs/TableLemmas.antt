@@ -1,24 +1,10 @@
 -- The entries of the table, and the nodes that they are.
-use Rattle.std.proofs.Common.{◌≡◌, ℕ, zero, suc, ◌<◌, ◌==◌, ◌&&◌, Bool, List, [], ◌∷◌, ◌++◌, length, get_or, slice_get, Contains, nat_eq, refl, ◌∙◌, ap, subst, arith}
-use Rattle.std.specs.Bool.{Decides}
-use Rattle.std.specs.Cmp.Lexicographic.{pointwise}
+use Rattle.std.proofs.Common.{◌≡◌, ℕ, zero, suc, ◌<◌, List, [], ◌∷◌, ◌++◌, length, get_or, slice_get, Contains, ◌∙◌, ap, subst, arith}
 use Rattle.std.specs.Prelude.{slice_index}
-use Rattle.std.proofs.lemmas.Bool.Decides.{Decides-eqb, Decides-and}
-use Rattle.std.proofs.lemmas.Slice.Eq.{slice_eq-Decides}
 use Rattle.sc_model.specs.Sets.{HasOptions}
 use Rattle.sc_base.specs.Interns.{Interns, known, fresh}
 use Rattle.sc_base.proofs.InternLemmas.{IsOneToOne-Interns}
 use Rattle.sc_diagram.specs.Diagram.{Branch, IsDiagram, end_at, ends_over}
-
-abbrev pub branch_eq : Branch → Branch → Bool
-branch_eq a b = (a.variable == b.variable) && pointwise nat_eq a.children b.children
-
-pub branch_eq-Decides : (a b : Branch) → Decides (branch_eq a b) (a ≡ b)
-branch_eq-Decides a b =
-    let both = Decides-and _ _ (Decides-eqb a.variable b.variable) (slice_eq-Decides Decides-eqb a.children b.children _ refl) in (
-      λ yes. (let same = both.0 yes in λ i. record { variable = same.0 i; children = same.1 i }),
-      λ same. both.1 (ap (λ x. x.variable) same, ap (λ x. x.children) same),
-    )
 
 -- the two ends are different
 ends_differ : (ns : List ℕ) → end_at ns 0 ≡ end_at ns 1 → ⊥

@@ -1,5 +1,5 @@
 -- Operations on nodes, and what they make.
-use Rattle.std.specs.Prelude.{◌≡◌, ℕ, ◌<◌, ◌≤◌, ◌==◌, ◌&&◌, ◌||◌, not, Bool, List, Contains, ◌⊎◌, length, slice_index, slice_set, min, if◌then◌else◌}
+use Rattle.std.specs.Prelude.{◌≡◌, ℕ, ◌<◌, ◌≤◌, ◌==◌, ◌&&◌, ◌||◌, not, Bool, List, Contains, Option, Some, ◌⊎◌, length, slice_index, slice_set, min, if◌then◌else◌}
 use Rattle.sc_model.specs.Sets.{IsConfig}
 use Rattle.sc_diagram.specs.Diagram.{Diagram, sets_of, variable_of, child_of}
 use Rattle.sc_diagram.specs.declared.operation.Operation.{Operation}
@@ -60,12 +60,16 @@ pub record AppliesEach (d : Diagram) (what : Application) (variable : ℕ) (resu
   pub each : (k : ℕ) → k < length results → Applies d (application_at d what variable k) (slice_index results k)
 
 -- each pair is an application with what it makes
-pub record IsKnown (d : Diagram) (known : List (Application × ℕ)) : Type 0 where
-  pub each : (e : Application × ℕ) → Contains known e → Applies d e.0 e.1
+pub record IsKnown (d : Diagram) (known : List (Option (Application × ℕ))) : Type 0 where
+  pub each : (e : Application × ℕ) → Contains known (Some e) → Applies d e.0 e.1
+
+-- no pair is kept
+abbrev pub IsForgotten : {K : Type 0} → List (Option (K × ℕ)) → Type 0
+IsForgotten {K} kept = (e : K × ℕ) → Contains kept (Some e) → ⊥
 
 -- each pair was there, or is this one
-pub record Adds (old new : List (Application × ℕ)) (what : Application) (r : ℕ) : Type 0 where
-  pub each : (e : Application × ℕ) → Contains new e → Contains old e ⊎ ((e.0 ≡ what) × (e.1 ≡ r))
+pub record Adds {K : Type 0} (old new : List (Option (K × ℕ))) (key : K) (r : ℕ) : Type 0 where
+  pub each : (e : K × ℕ) → Contains new (Some e) → Contains old (Some e) ⊎ ((e.0 ≡ key) × (e.1 ≡ r))
 
 -- the node decides by a variable before the one that the operation fixes
 abbrev pub IsBefore : Diagram → Operation → ℕ → Type 0

@@ -1,5 +1,7 @@
 pub mod Applied
+pub mod Chains
 pub mod Decision
 pub mod Diagram
 pub mod Grown
 pub mod Simplified
+pub mod Unique

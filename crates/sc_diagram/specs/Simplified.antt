@@ -1,5 +1,5 @@
 -- Nodes that are asked for in some configurations alone.
-use Rattle.std.specs.Prelude.{◌≡◌, ℕ, ◌<◌, ◌≤◌, ◌⊎◌, Bool, List, Contains, length, min, slice_index, slice_set, true}
+use Rattle.std.specs.Prelude.{◌≡◌, ℕ, ◌<◌, ◌≤◌, Bool, List, Contains, Option, Some, length, min, slice_index, slice_set, true}
 use Rattle.sc_model.specs.Sets.{Sets, IsConfig}
 use Rattle.sc_diagram.specs.declared.answers.Question.{Question}
 use Rattle.sc_diagram.specs.Applied.{cofactor}
@@ -30,12 +30,8 @@ pub record Simplifies (d : Diagram) (asked : Question) (r : ℕ) : Type 0 where
   pub said : (asked.within ≡ 0 → ⊥) → (c : List ℕ) → IsConfig d.arities c → IsSaid d asked ((sets_of d).has r c)
 
 -- each pair is a question and what it came to
-pub record AreAnswers (d : Diagram) (answers : List (Question × ℕ)) : Type 0 where
-  pub each : (e : Question × ℕ) → Contains answers e → Simplifies d e.0 e.1
-
--- each pair was there, or is this one
-pub record Adds (old new : List (Question × ℕ)) (asked : Question) (r : ℕ) : Type 0 where
-  pub each : (e : Question × ℕ) → Contains new e → Contains old e ⊎ ((e.0 ≡ asked) × (e.1 ≡ r))
+pub record AreAnswers (d : Diagram) (answers : List (Option (Question × ℕ))) : Type 0 where
+  pub each : (e : Question × ℕ) → Contains answers (Some e) → Simplifies d e.0 e.1
 
 -- the question on what remains of its nodes where a variable has an option
 abbrev pub question_at : Diagram → Question → ℕ → ℕ → Question

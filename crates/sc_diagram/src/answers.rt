@@ -1,8 +1,7 @@
-ghost use Rattle.std.specs.Prelude.{◌≡◌, ◌⊎◌, [], Contains, IfSome, OnOk, OnErr};
-ghost use Rattle.sc_diagram.specs.Simplified.{Adds};
+ghost use Rattle.std.specs.Prelude.{◌≡◌, ◌⊎◌, Contains, IfSome, Some, []};
+ghost use Rattle.sc_diagram.specs.Applied.{Adds, IsForgotten};
 
-use indexmap::IndexMap;
-use sc_base::OutOfMemory;
+use crate::slot::{more_slots, slot};
 use std::alloc::Global;
 use std::marker::Model;
 
@@ -13,19 +12,20 @@ pub struct Question {
     pub within: usize,
 }
 
-/// What questions came to, to be looked up where one comes again.
+/// What questions came to, to be looked up where one comes again: each at the slot that its nodes
+/// name, until another takes its place.
 #[derive(Drop)]
 pub struct Answers {
-    answers: IndexMap<Question, usize>,
+    slots: Vec<Option<(Question, usize)>>,
 }
 
 impl Model for Answers {
-    ghost use Rattle.std.specs.Prelude.{List, ℕ};
+    ghost use Rattle.std.specs.Prelude.{List, ℕ, Option};
     ghost use Rattle.sc_diagram.specs.declared.answers.Question.{Question};
 
-    ghost Value = { List (Question × ℕ) };
+    ghost Value = { List (Option (Question × ℕ)) };
 
-    ghost view = { λ a. a.answers.entries };
+    ghost view = { λ k. k.slots.items };
 }
 
 impl Answers {
@@ -33,32 +33,39 @@ impl Answers {
         ensures { result ≡ [] }
     {
         Answers {
-            answers: IndexMap::new(alloc),
+            slots: Vec::new(alloc),
         }
     }
 
-    /// Forgets all where that is more than so many.
-    pub fn bound(&mut self, most: usize)
-        ensures { (self.new ≡ self.old) ⊎ (self.new ≡ []) }
+    /// Forgets all, and has more slots, where there are too few of them for so many nodes.
+    pub fn fit(&mut self, nodes: usize)
+        ensures { (self.new ≡ self.old) ⊎ IsForgotten self.new }
     {
-        if self.answers.len() > most {
-            self.answers.clear();
+        let len = more_slots(self.slots.len(), nodes);
+        if len == self.slots.len() {
+            return;
+        }
+        let mut slots = Vec::new(*self.slots.allocator());
+        if slots.resize(len, None).is_ok() {
+            self.slots = slots;
         }
     }
 
-    /// What the question came to, where it was asked.
+    /// What the question came to, where that is kept.
     pub fn find(&self, asked: Question) -> Option<usize>
-        ensures { IfSome result (λ r. Contains self.now (asked, r)) }
+        ensures { IfSome result (λ r. Contains self.now (Some (asked, r))) }
     {
-        self.answers.get(&asked).copied()
+        let at = slot(self.slots.len(), 0, asked.node, asked.within)?;
+        let (kept, result) = self.slots[at]?;
+        if kept == asked { Some(result) } else { None }
     }
 
     /// Notes what a question came to.
-    pub fn add(&mut self, asked: Question, node: usize) -> Result<(), OutOfMemory>
-        ensures adds { OnOk result (Adds self.old self.new asked node) }
-        ensures err { OnErr result (self.new ≡ self.old) }
+    pub fn add(&mut self, asked: Question, node: usize)
+        ensures { Adds self.old self.new asked node }
     {
-        self.answers.insert(asked, node)?;
-        Ok(())
+        if let Some(at) = slot(self.slots.len(), 0, asked.node, asked.within) {
+            self.slots[at] = Some((asked, node));
+        }
     }
 }

@@ -35,7 +35,7 @@ pub fn apply(table: &mut Table, known: &mut Known, what: Application) -> Result<
         children.push(child)?;
     }
     let result = table.choice(variable, children)?;
-    known.add(what, result)?;
+    known.add(what, result);
     Ok(result)
 }
 

@@ -37,13 +37,13 @@ fn clear(into: &mut [usize])
 }
 
 /// The first child that is not never, or else the first.
-fn first_left(children: &[usize]) -> usize
+fn first_left(children: &[u32]) -> usize
     requires { 0 < length children.now }
     ensures within { result < length children.now }
     ensures left { (k : ℕ) → k < length children.now → slice_index children.now result ≡ 0 → slice_index children.now k ≡ 0 }
 {
     for (option, child) in children.iter().enumerate() {
-        if *child != NEVER {
+        if *child as usize != NEVER {
             return option;
         }
     }

@@ -5,6 +5,7 @@
 mod answers;
 mod apply;
 mod between;
+mod chains;
 mod choose;
 mod decided;
 mod example;
@@ -12,8 +13,10 @@ mod known;
 mod node;
 mod operation;
 mod simplify;
+mod slot;
 mod store;
 mod table;
+mod unique;
 mod walk;
 
 pub use node::{Decision, Node};

@@ -11,7 +11,7 @@ pub struct Node(pub usize);
 #[derive(Drop)]
 pub struct Decision<'a> {
     variable: usize,
-    children: &'a [usize],
+    children: &'a [u32],
 }
 
 impl<'a> Model for Decision<'a> {
@@ -23,7 +23,7 @@ impl<'a> Model for Decision<'a> {
 }
 
 impl<'a> Decision<'a> {
-    pub(crate) fn new(variable: usize, children: &'a [usize]) -> Decision<'a>
+    pub(crate) fn new(variable: usize, children: &'a [u32]) -> Decision<'a>
         ensures variable { result.variable ≡ variable }
         ensures children { result.children ≡ children.now }
     {
@@ -43,6 +43,6 @@ impl<'a> Decision<'a> {
         ensures { result.0 ≡ slice_index self.now.children option }
     {
         let children = self.children;
-        Node(children[option])
+        Node(children[option] as usize)
     }
 }

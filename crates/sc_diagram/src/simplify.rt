@@ -60,7 +60,7 @@ pub fn simplify(
         children.push(child)?;
     }
     let result = table.choice(variable, children)?;
-    answers.add(asked, result)?;
+    answers.add(asked, result);
     Ok(result)
 }
 

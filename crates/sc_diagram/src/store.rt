@@ -27,8 +27,8 @@ use std::marker::Model;
 /// Each node stands for one set of configurations, for good: the store only grows, also where a
 /// call finds no memory. Nodes of one store that stand for the same set are one. An operation adds
 /// no node but those of its result's diagram, `simplify` aside, and goes as deep as there are
-/// variables. What operations made is looked up, as long as that is at most a quarter of the nodes;
-/// then all of it is forgotten (Brace, Rudell and Bryant 1990).
+/// variables. What operations made is looked up while it is kept: there is a slot for every eight
+/// nodes, which the next result of that slot takes (Brace, Rudell and Bryant 1990).
 #[derive(Drop)]
 pub struct Store {
     table: Table,
@@ -223,8 +223,7 @@ impl Store {
         ensures grows { Grows self.old self.new }
         ensures keeps { Keeps (sets_of self.old) (sets_of self.new) }
     {
-        let most = self.table.count() / 4;
-        self.answers.bound(most);
+        self.answers.fit(self.table.count());
         let asked = Question {
             node: a.0,
             within: within.0,
@@ -301,8 +300,7 @@ impl Store {
         // at every outcome
         ensures grows { Grows self.old self.new }
     {
-        let most = self.table.count() / 4;
-        self.known.bound(most);
+        self.known.fit(self.table.count());
         let what = Application {
             operation,
             left: left.0,

@@ -4,7 +4,7 @@ ghost use Rattle.sc_diagram.specs.Diagram.{IsDiagram, branch_of, ends_over, vari
 ghost use Rattle.sc_diagram.specs.Grown.{Grows, IsChoice};
 ghost use Rattle.sc_diagram.specs.Applied.{cofactor};
 
-use indexmap::IndexSet;
+use crate::unique::UniqueTable;
 use sc_base::OutOfMemory;
 use smallvec::SmallVec;
 use std::alloc::Global;
@@ -19,29 +19,22 @@ pub const NEVER: usize = 0;
 /// The node that each configuration ends at.
 pub const ALWAYS: usize = 1;
 
-#[derive(PartialEq, Eq, Hash, Drop)]
-struct Entry {
-    variable: usize,
-    children: Children,
-}
-
 /// The nodes, each kept once: the two ends, then those that decide by a variable.
 #[derive(Drop)]
 pub struct Table {
     alloc: Global,
     arities: Vec<usize>,
-    nodes: IndexSet<Entry>,
+    nodes: UniqueTable,
 }
 
 impl Model for Table {
-    ghost use Rattle.std.specs.Prelude.{map};
-    ghost use Rattle.sc_diagram.specs.Diagram.{Diagram, IsDiagram, branch};
+    ghost use Rattle.sc_diagram.specs.Diagram.{Diagram, IsDiagram};
 
     ghost Value = { Diagram };
 
-    ghost view = { λ t. record { arities = t.arities.items; nodes = map (λ e. branch e.variable e.children.items) t.nodes.keys } };
+    ghost view = { λ t. record { arities = t.arities.items; nodes = t.nodes } };
 
-    ghost invariant = { λ t. IsDiagram (record { arities = t.arities.items; nodes = map (λ e. branch e.variable e.children.items) t.nodes.keys }) };
+    ghost invariant = { λ t. IsDiagram (record { arities = t.arities.items; nodes = t.nodes }) };
 }
 
 impl Table {
@@ -53,9 +46,9 @@ impl Table {
         ensures nodes { IfOk result (λ table. table.nodes ≡ ends_over arities.now) }
         ensures valid { IfOk result (λ table. IsDiagram table) }
     {
-        let mut nodes = IndexSet::new(alloc);
-        nodes.insert(end(alloc, arities.len(), NEVER)?)?;
-        nodes.insert(end(alloc, arities.len(), ALWAYS)?)?;
+        let mut nodes = UniqueTable::new(alloc);
+        nodes.insert(arities.len(), &[NEVER])?;
+        nodes.insert(arities.len(), &[ALWAYS])?;
         Ok(Table {
             alloc,
             arities: Vec::from_slice(alloc, arities)?,
@@ -96,16 +89,16 @@ impl Table {
         ensures variable { result ≡ variable_of self.now node }
         ensures valid { IsDiagram self.now }
     {
-        self.nodes.as_slice()[node].variable
+        self.nodes.variable(node)
     }
 
     /// The children of a node.
-    pub fn children(&self, node: usize) -> &[usize]
+    pub fn children(&self, node: usize) -> &[u32]
         requires { node < length self.now.nodes }
         ensures children { result.now ≡ (branch_of self.now node).children }
         ensures valid { IsDiagram self.now }
     {
-        self.nodes.as_slice()[node].children.as_slice()
+        self.nodes.children(node)
     }
 
     /// What remains of a node where a variable, none after its own, has the option.
@@ -116,7 +109,7 @@ impl Table {
         ensures { result ≡ cofactor self.now node variable option }
     {
         if self.variable(node) == variable {
-            self.children(node)[option]
+            self.children(node)[option] as usize
         } else {
             node
         }
@@ -140,22 +133,9 @@ impl Table {
         if let Some(only) = only(children.as_slice()) {
             return Ok(only);
         }
-        let (index, _) = self.nodes.insert_full(Entry { variable, children })?;
-        Ok(index)
+        let node = self.nodes.insert(variable, children.as_slice())?;
+        Ok(node)
     }
-}
-
-/// An end, which leads to itself.
-fn end(alloc: Global, variables: usize, node: usize) -> Result<Entry, OutOfMemory>
-    ensures variable { IfOk result (λ e. e.variable ≡ variables) }
-    ensures children { IfOk result (λ e. e.children.items ≡ node ∷ []) }
-{
-    let mut children = SmallVec::new(alloc);
-    children.push(node)?;
-    Ok(Entry {
-        variable: variables,
-        children,
-    })
 }
 
 /// The child that all of these are.

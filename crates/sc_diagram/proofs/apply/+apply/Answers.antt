@@ -39,9 +39,6 @@ choice-requires-clause-later t c =
 pub returns-in_err-result-clause-known : goal.returns-in_err-result-clause-known
 returns-in_err-result-clause-known t c = IsKnown-Grows c.in_err-result.ensures.grows c.loop-option.invariant.known
 
-pub returns-in_err-add-clause-known : goal.returns-in_err-add-clause-known
-returns-in_err-add-clause-known t c = rw c.in_err-add.ensures.err (IsKnown-Grows c.in_ok-result.ensures.grows c.loop-option.invariant.known)
-
 pub returns-clause-applies : goal.returns-clause-applies
 returns-clause-applies t c =
     let made = c.in_ok-result.ensures in
@@ -55,4 +52,4 @@ returns-clause-adds t c =
     AddsOnly-IsChoice made.grows tops c.loop-option.invariant.adds made.choice made.adds
 
 pub returns-clause-known : goal.returns-clause-known
-returns-clause-known t c = IsKnown-Adds c.in_ok-add.ensures.adds (IsKnown-Grows c.in_ok-result.ensures.grows c.loop-option.invariant.known) (returns-clause-applies t c)
+returns-clause-known t c = IsKnown-Adds c.add.ensures (IsKnown-Grows c.in_ok-result.ensures.grows c.loop-option.invariant.known) (returns-clause-applies t c)

@@ -62,12 +62,6 @@ returns-in_err-result-clause-known t c = IsKnown-Grows c.choice.ensures.grows c.
 pub returns-in_err-result-clause-answers : goal.returns-in_err-result-clause-answers
 returns-in_err-result-clause-answers t c = AreAnswers-Grows c.choice.ensures.grows c.loop-option.invariant.answers
 
-pub returns-in_err-add-clause-known : goal.returns-in_err-add-clause-known
-returns-in_err-add-clause-known t c = IsKnown-Grows c.choice.ensures.grows c.loop-option.invariant.known
-
-pub returns-in_err-add-clause-answers : goal.returns-in_err-add-clause-answers
-returns-in_err-add-clause-answers t c = rw c.in_err-add.ensures.err (AreAnswers-Grows c.choice.ensures.grows c.loop-option.invariant.answers)
-
 pub returns-clause-simplifies : goal.returns-clause-simplifies
 returns-clause-simplifies t c =
     let top = c.variable-variable.ensures.variable in
@@ -80,7 +74,10 @@ pub returns-clause-known : goal.returns-clause-known
 returns-clause-known t c = IsKnown-Grows c.choice.ensures.grows c.loop-option.invariant.known
 
 pub returns-clause-answers : goal.returns-clause-answers
-returns-clause-answers t c = AreAnswers-Adds c.in_ok-add.ensures.adds (AreAnswers-Grows c.choice.ensures.grows c.loop-option.invariant.answers) (returns-clause-simplifies t c)
+returns-clause-answers t c = AreAnswers-Adds c.add.ensures (AreAnswers-Grows c.choice.ensures.grows c.loop-option.invariant.answers) (returns-clause-simplifies t c)
 
 pub returns-then-node-le-ALWAYS-clause-simplifies : goal.returns-then-node-le-ALWAYS-clause-simplifies
 returns-then-node-le-ALWAYS-clause-simplifies t c = itself c.count-count.ensures.valid c.args.asked c.requires.question (elim c.then-node-le-ALWAYS.either [ inl low ↦ inl low | inr low ↦ inr low.1 ])
+
+pub returns-in-Some-clause-simplifies : goal.returns-in-Some-clause-simplifies
+returns-in-Some-clause-simplifies t c = c.requires.answers.each (c.args.asked, c.in-Some.result) c.in-Some.ensures

@@ -14,7 +14,7 @@ pub simplify-requires : goal.simplify-requires
 simplify-requires c = record {
   question = question c.self.inside.table c.args.self.now c.args.a.0 c.args.within.0 c.self.view_is c.requires.a_own.made c.requires.within_own.made;
   known = c.self.invariant.0;
-  answers = AreAnswers-bound c.bound.ensures c.self.invariant.1;
+  answers = AreAnswers-bound c.fit.ensures c.self.invariant.1;
 }
 
 pub returns-in_err-node-clause-keeps : goal.returns-in_err-node-clause-keeps
