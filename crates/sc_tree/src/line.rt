@@ -2,7 +2,7 @@ ghost use Rattle.std.specs.Prelude.{◌≡◌, true};
 ghost use Rattle.sc_tree.specs.Views.{line_of};
 
 use sc_base::{Cond, Name, Place, TreeId};
-use std::hash::{DefaultHasher, Hash, Hasher};
+use std::hash::{FoldHasher, Hash, Hasher};
 
 /// A tree as the store keeps it. Its subtrees were put into the store before it.
 #[derive(PartialEq, Eq, Hash, Drop)]
@@ -31,7 +31,7 @@ pub(crate) fn is_same(a: &Line, b: &Line) -> bool
 
 /// A number by which a line is looked up. Other lines may have it too.
 pub(crate) fn hash_of(line: &Line) -> u64 {
-    let mut state = DefaultHasher::new();
+    let mut state = FoldHasher::default();
     line.hash(&mut state);
     state.finish()
 }
