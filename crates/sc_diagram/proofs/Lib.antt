@@ -2,6 +2,7 @@ pub mod AppliedLemmas
 pub mod ChainLemmas
 pub mod DecidedLemmas
 pub mod DiagramLemmas
+pub mod EntryLemmas
 pub mod ExampleLemmas
 pub mod GrownLemmas
 pub mod SimplifiedLemmas

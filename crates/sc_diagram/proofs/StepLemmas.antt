@@ -1,14 +1,14 @@
 -- One step of an operation: the operation on what remains for each option of the first variable.
-use Rattle.std.proofs.Common.{◌≡◌, ℕ, suc, ◌-◌, ◌<◌, ◌≤◌, List, [], ◌∷◌, ◌++◌, length, inl, inr, sym, ◌∙◌, ap, subst, arith}
+use Rattle.std.proofs.Common.{◌≡◌, ℕ, zero, suc, ◌-◌, ◌<◌, ◌≤◌, List, [], ◌∷◌, ◌++◌, length, inl, inr, sym, ◌∙◌, ap, subst, arith}
 use Rattle.std.specs.Prelude.{slice_index}
 use Rattle.std.proofs.lemmas.Bool.{cases_lt}
 use Rattle.std.proofs.lemmas.List.{length_push, get_or_push, get_or_append_left}
 use Rattle.sc_diagram.specs.declared.operation.Application.{Application}
-use Rattle.sc_diagram.specs.Diagram.{Diagram, variable_of}
-use Rattle.sc_diagram.specs.Grown.{Grows, IsChoice}
+use Rattle.sc_diagram.specs.Diagram.{Diagram, IsDiagram, variable_of}
+use Rattle.sc_diagram.specs.Grown.{Grows, IsChoice, AddsOnly, AddsBelow}
 use Rattle.sc_diagram.specs.Applied.{IsApplication, Applies, AppliesEach, IsUndecided, application_at, first_of}
 use Rattle.sc_diagram.proofs.AppliedLemmas.{first-le, later_cofactor, IsApplication-at, Applies-IsChoice, IsApplication-Grows, Applies-Grows, application_at-Grows, first_of-Grows, IsBefore-Grows}
-use Rattle.sc_diagram.proofs.GrownLemmas.{Grows-trans}
+use Rattle.sc_diagram.proofs.GrownLemmas.{Grows-refl, Grows-trans, AddsBelow-push, AddsBelow-refl}
 
 -- what was made for each option stays
 AppliesEach-Grows : {d e : Diagram} {what : Application} {v : ℕ} {results : List ℕ} → Grows d e → IsApplication d what → AppliesEach d what v results → AppliesEach e what v results
@@ -80,3 +80,32 @@ module _ {d e : Diagram} {what : Application} {v : ℕ} (is : IsApplication d wh
       let now = IsApplication-Grows grows is in
       Applies-IsChoice all.valid what (IsApplication-Grows all is) r v results (IsBefore-Grows all what.operation what.left is.left open_.before) (first ∙ sym (first_of-Grows all what is))
       (omega (arith, within, ap length more.arities)) (omega (arith, full, ap (λ ns. slice_index ns v) more.arities)) own (AppliesEach-Grows more now each) choice
+
+-- the operation on what remains with the first and with the second option of two, one after the other
+module _ {d : Diagram} {what : Application} {v : ℕ} (valid : IsDiagram d) (is : IsApplication d what) (open_ : IsUndecided d what) (first : v ≡ first_of d what) (two : slice_index d.arities v ≡ 2) where
+  pub first_call : (w : Application) → w ≡ application_at d what v 0 → record { deeper : length d.arities - first_of d w < length d.arities - first_of d what; application : IsApplication d w }
+  first_call w same = call_is is open_ first (Grows-refl d valid) w 0 (omega (arith, two)) same
+
+  module _ {e : Diagram} (one : Grows d e) where
+    two_now : slice_index e.arities v ≡ 2
+    two_now = ap (λ ns. slice_index ns v) one.arities ∙ two
+
+    pub second_call : (w : Application) → w ≡ application_at d what v 1 → record { deeper : length e.arities - first_of e w < length d.arities - first_of d what; application : IsApplication e w }
+    second_call w same = call_is is open_ first one w 1 (omega (arith, two_now)) (same ∙ sym (application_at-Grows one what v 1 is))
+
+    pub full-both : {f : Diagram} → Grows e f → 2 ≡ slice_index f.arities v
+    full-both more = sym (ap (λ ns. slice_index ns v) more.arities ∙ two_now)
+
+    module _ {f : Diagram} (more : Grows e f) {a b : ℕ} (w u : Application) (w_is : w ≡ application_at d what v 0) (u_is : u ≡ application_at d what v 1) (made : Applies e w a) (made_next : Applies f u b) where
+      pub each-both : AppliesEach f what v (a ∷ b ∷ [])
+      each-both = AppliesEach-more is open_ first one u more (AppliesEach-more is open_ first (Grows-refl d valid) w one none w_is made) (u_is ∙ sym (application_at-Grows one what v 1 is)) made_next
+        where
+          none : AppliesEach d what v []
+          none = record { each = λ k within. absurd (omega (arith, within)) }
+
+      pub adds-both : AddsOnly d e a → AddsOnly e f b → AddsBelow d f (a ∷ b ∷ [])
+      adds-both here next = AddsBelow-push more tops (AddsBelow-push one (λ k within. absurd (omega (arith, within))) (AddsBelow-refl d []) here) next
+        where
+          tops : (k : ℕ) → k < 1 → slice_index (a ∷ []) k < length e.nodes
+          tops zero within = made.own
+          tops (suc k) within = absurd (omega (arith, within))

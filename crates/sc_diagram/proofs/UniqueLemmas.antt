@@ -6,7 +6,9 @@ use Rattle.std.proofs.lemmas.List.Elements.{All-head, All-tail, All-push, All-we
 use Rattle.std.proofs.lemmas.Option.{slice_get-get_or, slice_get_within, get_or_from_slice_get}
 use Rattle.std.proofs.lemmas.Slice.{between_is}
 use Rattle.sc_diagram.specs.Diagram.{Branch, branch}
-use Rattle.sc_diagram.specs.Unique.{AreRows, IsRow, branch_at, branches_of, hash_of}
+use Rattle.sc_diagram.specs.Unique.{AreRows, IsKept, IsRow, branch_at, branches_of, hash_of, kept_in}
+use Rattle.sc_diagram.specs.declared.unique.Kept.{Kept}
+use Rattle.sc_diagram.specs.declared.unique.Kept.TheVariants.{Pair, Range}
 use Rattle.sc_diagram.specs.declared.unique.Row.{Row}
 
 module _ {children : List ℕ} {rows : List Row} {hashes : List ℕ} (n : ℕ) (b : Branch) (are : AreRows children rows hashes) (at : slice_get (branches_of children rows) n ≡ Some b) where
@@ -25,18 +27,27 @@ slice-kept : (old new : List ℕ) (first end : ℕ) → end ≤ length old → t
 slice-kept old new first end within kept =
     between_is new first end ∙ ap (drop first) (sym (take-take end (length old) new within) ∙ ap (take end) kept) ∙ sym (between_is old first end)
 
--- children that are added change no branch
+-- children that are added change none that a row has
+kept_in-more : (old new : List ℕ) (kept : Kept) → IsKept (length old) kept → take (length old) new ≡ old → kept_in new kept ≡ kept_in old kept
+kept_in-more old new (Pair pair) within same = refl
+kept_in-more old new (Range first end) within same = slice-kept old new first end within.1 same
+
+IsKept-more : (m n : ℕ) (kept : Kept) → m ≤ n → IsKept m kept → IsKept n kept
+IsKept-more m n (Pair pair) more within = tt
+IsKept-more m n (Range first end) more within = (within.0, omega (arith, within.1, more))
+
+-- nor a branch
 pub branches-kept : (old new : List ℕ) (rows : List Row) → All (IsRow (length old)) rows → take (length old) new ≡ old → branches_of new rows ≡ branches_of old rows
 branches-kept old new [] are kept = refl
 branches-kept old new (r ∷ rows) are kept =
     let here = All-head (IsRow (length old)) r rows are in
-    let slice = slice-kept old new r.first r.end here.most kept in
+    let same = kept_in-more old new r.kept here.kept kept in
     let rest = branches-kept old new rows (All-tail (IsRow (length old)) r rows are) kept in
-    λ i. branch r.variable (slice i) ∷ rest i
+    λ i. branch r.variable (same i) ∷ rest i
 
 pub AreRows-kept : {old new : List ℕ} {rows : List Row} {hashes : List ℕ} → take (length old) new ≡ old → AreRows old rows hashes → AreRows new rows hashes
 AreRows-kept {old} {new} {rows} kept are = record {
-  within = All-weaker (IsRow (length old)) (IsRow (length new)) (λ r is. record { order = is.order; most = omega (arith, is.most, longer) }) rows are.within;
+  within = All-weaker (IsRow (length old)) (IsRow (length new)) (λ r is. record { kept = IsKept-more (length old) (length new) r.kept longer is.kept }) rows are.within;
   hashed = are.hashed ∙ ap (map hash_of) (sym (branches-kept old new rows are.within kept));
 }
   where

@@ -29,12 +29,20 @@ pub fn apply(table: &mut Table, known: &mut Known, what: Application) -> Result<
         return Ok(result);
     }
     let variable = first_variable(table, what);
-    let mut children = SmallVec::new(table.allocator());
+    if table.arity(variable) == 2 {
+        let (first, second) = applications(table, what, variable);
+        let first = apply(table, known, first)?;
+        let second = apply(table, known, second)?;
+        let node = table.choice(variable, &[first, second])?;
+        known.add(what, node);
+        return Ok(node);
+    }
+    let mut children: SmallVec<usize, 2> = SmallVec::new(table.allocator());
     for option in 0..table.arity(variable) {
         let child = apply(table, known, application_at(table, what, variable, option))?;
         children.push(child)?;
     }
-    let result = table.choice(variable, children)?;
+    let result = table.choice(variable, children.as_slice())?;
     known.add(what, result);
     Ok(result)
 }
@@ -45,6 +53,30 @@ fn first_variable(table: &Table, what: Application) -> usize
     ensures { result ≡ first_of table.now what }
 {
     table.variable(what.left).min(table.variable(what.right))
+}
+
+/// The operation on what remains of its nodes with each of the two options of their first variable.
+fn applications(table: &Table, what: Application, variable: usize) -> (Application, Application)
+    requires own { IsApplication table.now what }
+    requires variable { variable < length table.now.arities }
+    requires two { slice_index table.now.arities variable ≡ 2 }
+    ensures first { result.0 ≡ application_at table.now what variable 0 }
+    ensures second { result.1 ≡ application_at table.now what variable 1 }
+{
+    let operation = what.operation;
+    let (first_left, second_left) = table.cofactors(what.left, variable);
+    let (first_right, second_right) = table.cofactors(what.right, variable);
+    let first = Application {
+        operation,
+        left: first_left,
+        right: first_right,
+    };
+    let second = Application {
+        operation,
+        left: second_left,
+        right: second_right,
+    };
+    (first, second)
 }
 
 /// The operation on what remains of its nodes where their first variable has the option.

@@ -24,10 +24,10 @@ pub fn between(table: &mut Table, variable: usize, children: &[Node]) -> Result<
     ensures grows { Grows table.old table.new }
 {
     let _count = table.count();
-    let mut numbers = SmallVec::new(table.allocator());
+    let mut numbers: SmallVec<usize, 2> = SmallVec::new(table.allocator());
     for child in children {
         numbers.push(child.0)?;
     }
-    let node = table.choice(variable, numbers)?;
+    let node = table.choice(variable, numbers.as_slice())?;
     Ok(node)
 }

@@ -19,10 +19,10 @@ pub fn choose(table: &mut Table, variable: usize, option: usize) -> Result<usize
     ensures grows { Grows table.old table.new }
 {
     let _count = table.count();
-    let mut children = SmallVec::new(table.allocator());
+    let mut children: SmallVec<usize, 2> = SmallVec::new(table.allocator());
     for each in 0..table.arity(variable) {
         children.push(if each == option { ALWAYS } else { NEVER })?;
     }
-    let node = table.choice(variable, children)?;
+    let node = table.choice(variable, children.as_slice())?;
     Ok(node)
 }

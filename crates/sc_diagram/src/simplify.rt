@@ -48,7 +48,7 @@ pub fn simplify(
         let within = widened(table, known, within)?;
         return simplify(table, known, answers, Question { node, within });
     }
-    let mut children = SmallVec::new(table.allocator());
+    let mut children: SmallVec<usize, 2> = SmallVec::new(table.allocator());
     for option in 0..table.arity(variable) {
         let like = option_like(table, within, variable, option);
         let child = simplify(
@@ -59,7 +59,7 @@ pub fn simplify(
         )?;
         children.push(child)?;
     }
-    let result = table.choice(variable, children)?;
+    let result = table.choice(variable, children.as_slice())?;
     answers.add(asked, result);
     Ok(result)
 }

@@ -5,16 +5,20 @@ ghost use Rattle.std.specs.Prelude.{◌<◌, ◌≤◌, IfSome};
 const FACTOR: usize = 0x9E37_79B9_7F4A_7C15;
 
 /// How many nodes there may be for a slot.
-const NODES: usize = 8;
+const NODES: usize = 4;
 
 /// The fewest slots.
 const FEWEST: usize = 256;
 
-/// So many slots, or twice as many where the nodes ask for more.
+/// The most slots: so many stay in a processor's cache, and an operation that is still at work
+/// finds there what it made.
+const MOST: usize = 32_768;
+
+/// So many slots, or twice as many where the nodes ask for more and there are not the most.
 pub fn more_slots(slots: usize, nodes: usize) -> usize
     ensures { slots ≤ result }
 {
-    if nodes / NODES <= slots && slots > 0 {
+    if (nodes / NODES <= slots && slots > 0) || slots >= MOST {
         slots
     } else {
         slots.saturating_mul(2).max(FEWEST)

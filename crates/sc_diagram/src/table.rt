@@ -6,12 +6,8 @@ ghost use Rattle.sc_diagram.specs.Applied.{cofactor};
 
 use crate::unique::UniqueTable;
 use sc_base::OutOfMemory;
-use smallvec::SmallVec;
 use std::alloc::Global;
 use std::marker::Model;
-
-/// The children of a node, one for each option of its variable.
-pub type Children = SmallVec<usize, 2>;
 
 /// The node that no configuration leads on from.
 pub const NEVER: usize = 0;
@@ -115,25 +111,41 @@ impl Table {
         }
     }
 
+    /// What remains of a node with each of the two options of a variable, none after its own.
+    pub fn cofactors(&self, node: usize, variable: usize) -> (usize, usize)
+        requires own { node < length self.now.nodes }
+        requires variable { variable < length self.now.arities }
+        requires two { slice_index self.now.arities variable ≡ 2 }
+        ensures first { result.0 ≡ cofactor self.now node variable 0 }
+        ensures second { result.1 ≡ cofactor self.now node variable 1 }
+    {
+        if self.variable(node) == variable {
+            let children = self.children(node);
+            (children[0] as usize, children[1] as usize)
+        } else {
+            (node, node)
+        }
+    }
+
     /// The node that decides by a variable between these children: the one that there is, or else a
     /// new one. There is none between children that are all the same: it is that child.
-    pub fn choice(&mut self, variable: usize, children: Children) -> Result<usize, OutOfMemory>
+    pub fn choice(&mut self, variable: usize, children: &[usize]) -> Result<usize, OutOfMemory>
         requires variable { variable < length self.old.arities }
-        requires wide { length children.items ≡ slice_index self.old.arities variable }
-        requires own { (k : ℕ) → k < length children.items → slice_index children.items k < length self.old.nodes }
-        requires later { (k : ℕ) → k < length children.items → variable < variable_of self.old (slice_index children.items k) }
+        requires wide { length children.now ≡ slice_index self.old.arities variable }
+        requires own { (k : ℕ) → k < length children.now → slice_index children.now k < length self.old.nodes }
+        requires later { (k : ℕ) → k < length children.now → variable < variable_of self.old (slice_index children.now k) }
         ensures own { IfOk result (λ r. r < length self.new.nodes) }
-        ensures choice { IfOk result (λ r. IsChoice self.new r variable children.items) }
+        ensures choice { IfOk result (λ r. IsChoice self.new r variable children.now) }
         ensures adds { IfOk result (λ r. (n : ℕ) → length self.old.nodes ≤ n → n < length self.new.nodes → n ≡ r) }
 
         // at every outcome
         ensures grows { Grows self.old self.new }
     {
         let _nodes = &self.nodes;
-        if let Some(only) = only(children.as_slice()) {
+        if let Some(only) = only(children) {
             return Ok(only);
         }
-        let node = self.nodes.insert(variable, children.as_slice())?;
+        let node = self.nodes.insert(variable, children)?;
         Ok(node)
     }
 }

@@ -12,12 +12,18 @@ use std::marker::Model;
 /// 2^64 by the golden ratio, whose multiples are far from each other.
 const FACTOR: usize = 0x9E37_79B9_7F4A_7C15;
 
-/// A branch: its variable, and where its children stand among those of all.
+/// The children of a branch: two, or where they stand among those of all.
+#[derive(Clone, Copy)]
+enum Kept {
+    Pair([u32; 2]),
+    Range(u32, u32),
+}
+
+/// A branch: its variable and its children.
 #[derive(Clone, Copy)]
 struct Row {
     variable: u32,
-    first: u32,
-    end: u32,
+    kept: Kept,
 }
 
 /// Branches, each kept once and found by its hash (the unique table of Brace, Rudell and Bryant
@@ -71,8 +77,10 @@ impl UniqueTable {
         requires { number < length self.now }
         ensures { result.now ≡ (slice_index_or self.now number (branch 0 [])).children }
     {
-        let Row { first, end, .. } = self.rows[number];
-        &self.children[first as usize..end as usize]
+        match &self.rows[number].kept {
+            Kept::Pair(pair) => &pair[..],
+            Kept::Range(first, end) => &self.children[*first as usize..*end as usize],
+        }
     }
 
     /// The number of the branch, which is the next one where it wasn't there.
@@ -158,15 +166,17 @@ fn put_row(all: &mut Vec<u32>, variable: usize, children: &[usize]) -> Result<Ro
     // at every outcome
     ensures kept { take (length all.old.items) all.new.items ≡ all.old.items }
 {
+    let variable = number_of(variable)?;
+    if let [first, second] = children {
+        let kept = Kept::Pair([number_of(*first)?, number_of(*second)?]);
+        return Ok(Row { variable, kept });
+    }
     let first = number_of(all.len())?;
     for child in children {
         all.push(number_of(*child)?)?;
     }
-    Ok(Row {
-        variable: number_of(variable)?,
-        first,
-        end: number_of(all.len())?,
-    })
+    let kept = Kept::Range(first, number_of(all.len())?);
+    Ok(Row { variable, kept })
 }
 
 /// The number in four bytes, where there is room for so many.

@@ -7,7 +7,7 @@ pub returns-clause-meaning : goal.returns-clause-meaning
 returns-clause-meaning c =
     let made = c.in_ok-node.ensures in
     let full : length c.loop-each.children.items ≡ slice_index c.args.table.now.arities c.args.variable = omega (arith, c.loop-each.invariant.full, c.loop-each-test.false, c.loop-each.auto.each-end, c.arity-each-end.ensures) in
-    has_choose c.in_ok-node.node c.args.variable c.args.option c.loop-each.children.items made.grows made.choice made.own c.requires.within full c.loop-each.invariant.ends
+    has_choose c.in_ok-node.node c.args.variable c.args.option c.loop-each.children.items made.grows (rw c.as_slice.ensures at made.choice) made.own c.requires.within full c.loop-each.invariant.ends
 
 pub returns-clause-adds : goal.returns-clause-adds
 returns-clause-adds c = AddsOnly-last c.in_ok-node.ensures.adds

@@ -54,7 +54,7 @@ loop-option-preserved t c =
     }
 
 pub choice-requires-clause-later : goal.choice-requires-clause-later
-choice-requires-clause-later t c = later-options c.loop-option.invariant.each
+choice-requires-clause-later t c = rw c.as_slice.ensures (later-options c.loop-option.invariant.each)
 
 pub returns-in_err-result-clause-known : goal.returns-in_err-result-clause-known
 returns-in_err-result-clause-known t c = IsKnown-Grows c.choice.ensures.grows c.loop-option.invariant.known
@@ -68,7 +68,7 @@ returns-clause-simplifies t c =
     let inner = inner-node c.count-count.ensures.valid c.requires.question c.if-node-le-ALWAYS.false top in
     let low : c.variable-variable.result ≤ variable_of c.args.table.now c.args.asked.within = omega (arith, c.if-variable.false, c.variable.ensures.variable) in
     let full : length c.loop-option.children.items ≡ slice_index c.loop-option.table.arities c.variable-variable.result = omega (arith, c.loop-option.invariant.full, c.loop-option-test.false, c.loop-option.auto.option-end, c.arity-option-end.ensures, ap (λ ns. slice_index ns c.variable-variable.result) c.loop-option.invariant.grows.arities) in
-    from-options c.requires.question top inner low c.loop-option.invariant.grows c.in_ok-result.result c.choice.ensures.grows c.loop-option.invariant.each full c.in_ok-result.ensures.own c.in_ok-result.ensures.choice
+    from-options c.requires.question top inner low c.loop-option.invariant.grows c.in_ok-result.result c.choice.ensures.grows c.loop-option.invariant.each full c.in_ok-result.ensures.own (rw c.as_slice.ensures at c.in_ok-result.ensures.choice)
 
 pub returns-clause-known : goal.returns-clause-known
 returns-clause-known t c = IsKnown-Grows c.choice.ensures.grows c.loop-option.invariant.known
