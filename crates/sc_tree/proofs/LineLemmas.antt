@@ -1,12 +1,10 @@
 -- Children stand before their tree.
 use Rattle.std.proofs.Common.{◌≡◌, ℕ, ◌<◌, ◌⊎◌, inl, inr, List, [], ◌∷◌, ◌++◌, length, map, slice_get, Some, All, subst, sym, ◌∙◌, ap}
 use Rattle.std.proofs.lemmas.List.{map-append}
-use Rattle.std.proofs.lemmas.List.Elements.{All-map}
-use Rattle.sc_base.specs.declared.id.Cond.{Cond}
 use Rattle.sc_base.specs.declared.id.TreeId.{TreeId}
 use Rattle.sc_base.proofs.Growth.{push_cases}
 use Rattle.sc_tree.specs.declared.line.Line as kept
-use Rattle.sc_tree.specs.Lines.{Line, choice, children_of, ChildrenFirst}
+use Rattle.sc_tree.specs.Lines.{Line, children_of, ChildrenFirst}
 use Rattle.sc_tree.specs.Views.{line_of}
 
 -- a tree is added whose children were there
@@ -30,10 +28,3 @@ kept_first lines line after seen same first own is =
     = subst (λ (ls : List Line). All (λ (child : TreeId). child.0 < length ls) (children_of (line_of line))) (sym same) own in
     let e : map line_of after ≡ map line_of lines ++ line_of line ∷ [] = ap (map line_of) is ∙ rw map-append in
     subst ChildrenFirst (sym e) (ChildrenFirst-push (map line_of lines) (line_of line) first own_here)
-
--- the trees of branches that were there are children that were there
-pub own_branches : (n : ℕ) (branches copy : List (Cond × TreeId)) → copy ≡ branches → All (λ (branch : Cond × TreeId). branch.1.0 < n) branches
-    → All (λ (child : TreeId). child.0 < n) (children_of (choice copy))
-own_branches n branches copy same own =
-    All-map (λ (child : TreeId). child.0 < n) (λ (branch : Cond × TreeId). branch.1) copy
-    (subst (λ (bs : List (Cond × TreeId)). All (λ (branch : Cond × TreeId). branch.1.0 < n) bs) (sym same) own)

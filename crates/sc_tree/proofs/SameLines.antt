@@ -1,4 +1,4 @@
--- `==` on lines tells them apart.
+-- `==` on trees tells them apart.
 use Rattle.std.proofs.Common.{◌≡◌, ℕ, ◌==◌, subst, rules, ◌&&◌, Bool, true, false, List, [], ◌∷◌, refl}
 use Rattle.std.specs.Cmp.Lexicographic.{pointwise}
 use Rattle.std.proofs.lemmas.Bool.{false≢true, eqb-true}
@@ -7,11 +7,11 @@ use Rattle.sc_base.specs.declared.id.Name.{Name}
 use Rattle.sc_base.specs.declared.id.TreeId.{TreeId}
 use Rattle.sc_base.specs.declared.place.Place.{Place}
 use Rattle.sc_base.specs.contracts.place.PlacePartialEq.TheImpl as place
-use Rattle.sc_tree.specs.declared.line.Line as kept
-use Rattle.sc_tree.specs.declared.line.Line.TheVariants.{Leaf, Node, Choice}
-use Rattle.sc_tree.specs.contracts.line.LinePartialEq.TheImpl as line
+use Rattle.sc_tree.specs.declared.line.TreeView.{TreeView}
+use Rattle.sc_tree.specs.declared.line.TreeView.TheVariants.{Leaf, Node, Choice}
+use Rattle.sc_tree.specs.contracts.line.TreeViewPartialEq.TheImpl as line
 use Rattle.sc_tree.specs.Lines.{leaf, node, choice}
-use Rattle.sc_tree.specs.Views.{line_of}
+use Rattle.sc_tree.specs.Views.{line_seen}
 
 both : (x y : Bool) → (x && y) ≡ true → (x ≡ true) × (y ≡ true)
 both true true told = (refl, refl)
@@ -49,7 +49,7 @@ same_branches (x ∷ xs) (y ∷ ys) told =
     let rest = same_branches xs ys is.1 in
     λ i. (record { 0 = cond i }, record { 0 = tree i }) ∷ rest i
 
-pub same_line : (a b : kept.Line) → line.eq-value.it a b ≡ true → line_of a ≡ line_of b
+pub same_line : (a b : TreeView) → line.eq-value.it a b ≡ true → line_seen a ≡ line_seen b
 same_line (Leaf p n) (Leaf q m) told =
     let is = both (place.eq-value.it p q) (n.0 == m.0) told in
     let at = same_place p q is.0 in
@@ -59,15 +59,15 @@ same_line (Leaf p n) (Node q m) told = absurd (false≢true told)
 same_line (Leaf p n) (Choice m) told = absurd (false≢true told)
 same_line (Node p n) (Leaf q m) told = absurd (false≢true told)
 same_line (Node p n) (Node q m) told =
-    let is = both (p == q) (pointwise (λ (a b : TreeId). a.0 == b.0) n.items m.items) told in
+    let is = both (p == q) (pointwise (λ (a b : TreeId). a.0 == b.0) n.now m.now) told in
     let production = eqb-true p q is.0 in
-    let children = same_children n.items m.items is.1 in
+    let children = same_children n.now m.now is.1 in
     λ i. node (production i) (children i)
 same_line (Node p n) (Choice m) told = absurd (false≢true told)
 same_line (Choice n) (Leaf q m) told = absurd (false≢true told)
 same_line (Choice n) (Node q m) told = absurd (false≢true told)
 same_line (Choice n) (Choice m) told =
-    let branches = same_branches n.items m.items told in
+    let branches = same_branches n.now m.now told in
     λ i. choice (branches i)
 
 -- ---- the same lines are told to be
@@ -91,7 +91,7 @@ told_branches (x ∷ xs) =
     both_told ((x.0.0 == x.0.0) && (x.1.0 == x.1.0)) (pointwise (λ (a b : Cond × TreeId). (a.0.0 == b.0.0) && (a.1.0 == b.1.0)) xs xs)
     (both_told (x.0.0 == x.0.0) (x.1.0 == x.1.0) (told x.0.0) (told x.1.0)) (told_branches xs)
 
-pub told_line : (a b : kept.Line) → line_of a ≡ line_of b → line.eq-value.it a b ≡ true
+pub told_line : (a b : TreeView) → line_seen a ≡ line_seen b → line.eq-value.it a b ≡ true
 told_line (Leaf p n) (Leaf q m) same =
     let at : p ≡ q = cc in
     let name : n ≡ m = cc in
@@ -102,13 +102,13 @@ told_line (Leaf p n) (Choice m) same = absurd (cc)
 told_line (Node p n) (Leaf q m) same = absurd (cc)
 told_line (Node p n) (Node q m) same =
     let production : p ≡ q = cc in
-    let children : n.items ≡ m.items = cc in
-    subst (λ (x : ℕ). ((p == x) && pointwise (λ (a b : TreeId). a.0 == b.0) n.items m.items) ≡ true) production
-    (subst (λ (xs : List TreeId). ((p == p) && pointwise (λ (a b : TreeId). a.0 == b.0) n.items xs) ≡ true) children
-    (both_told (p == p) (pointwise (λ (a b : TreeId). a.0 == b.0) n.items n.items) (told p) (told_children n.items)))
+    let children : n.now ≡ m.now = cc in
+    subst (λ (x : ℕ). ((p == x) && pointwise (λ (a b : TreeId). a.0 == b.0) n.now m.now) ≡ true) production
+    (subst (λ (xs : List TreeId). ((p == p) && pointwise (λ (a b : TreeId). a.0 == b.0) n.now xs) ≡ true) children
+    (both_told (p == p) (pointwise (λ (a b : TreeId). a.0 == b.0) n.now n.now) (told p) (told_children n.now)))
 told_line (Node p n) (Choice m) same = absurd (cc)
 told_line (Choice n) (Leaf q m) same = absurd (cc)
 told_line (Choice n) (Node q m) same = absurd (cc)
 told_line (Choice n) (Choice m) same =
-    let branches : n.items ≡ m.items = cc in
-    subst (λ (xs : List (Cond × TreeId)). pointwise (λ (a b : Cond × TreeId). (a.0.0 == b.0.0) && (a.1.0 == b.1.0)) n.items xs ≡ true) branches (told_branches n.items)
+    let branches : n.now ≡ m.now = cc in
+    subst (λ (xs : List (Cond × TreeId)). pointwise (λ (a b : Cond × TreeId). (a.0.0 == b.0.0) && (a.1.0 == b.1.0)) n.now xs ≡ true) branches (told_branches n.now)

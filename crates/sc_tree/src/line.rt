@@ -1,11 +1,12 @@
-ghost use Rattle.std.specs.Prelude.{◌≡◌, true};
-ghost use Rattle.sc_tree.specs.Views.{line_of};
+ghost use Rattle.std.specs.Prelude.{◌≡◌, true, IfOk};
+ghost use Rattle.sc_tree.specs.Views.{line_of, line_seen};
 
-use sc_base::{Cond, Name, Place, TreeId};
+use sc_base::{Cond, Name, OutOfMemory, Place, TreeId};
+use std::alloc::Global;
 use std::hash::{FoldHasher, Hash, Hasher};
 
 /// A tree as the store keeps it. Its subtrees were put into the store before it.
-#[derive(PartialEq, Eq, Hash, Drop)]
+#[derive(Drop)]
 pub(crate) enum Line {
     Leaf(Place, Name),
     Node(usize, Vec<TreeId>),
@@ -14,24 +15,50 @@ pub(crate) enum Line {
 
 /// What a tree is: a token by its place and spelling, a node by its production and children, or a
 /// choice by its branches, each with its condition.
-#[derive(Clone, Copy, Debug, PartialEq, Eq)]
+#[derive(Clone, Copy, Debug, PartialEq, Eq, Hash)]
 pub enum TreeView<'a> {
     Leaf(Place, Name),
     Node(usize, &'a [TreeId]),
     Choice(&'a [(Cond, TreeId)]),
 }
 
-/// Whether the lines are the same.
-pub(crate) fn is_same(a: &Line, b: &Line) -> bool
-    ensures same { result ≡ true → line_of a.now ≡ line_of b.now }
-    ensures told { line_of a.now ≡ line_of b.now → result ≡ true }
+impl Line {
+    /// The line of a tree, which keeps what it is lent.
+    pub(crate) fn new(alloc: Global, tree: TreeView<'_>) -> Result<Line, OutOfMemory>
+        ensures { IfOk result (λ line. line_of line ≡ line_seen tree.entry) }
+    {
+        Ok(match tree {
+            TreeView::Leaf(place, spelling) => Line::Leaf(place, spelling),
+            TreeView::Node(production, children) => {
+                Line::Node(production, Vec::from_slice(alloc, children)?)
+            }
+            TreeView::Choice(branches) => Line::Choice(Vec::from_slice(alloc, branches)?),
+        })
+    }
+
+    /// The line as it is lent.
+    pub(crate) fn view(&self) -> TreeView<'_>
+        ensures { line_seen result ≡ line_of self.now }
+    {
+        match self {
+            Line::Leaf(place, spelling) => TreeView::Leaf(*place, *spelling),
+            Line::Node(production, children) => TreeView::Node(*production, children.as_slice()),
+            Line::Choice(branches) => TreeView::Choice(branches.as_slice()),
+        }
+    }
+}
+
+/// Whether the trees are the same.
+pub(crate) fn is_same(a: TreeView<'_>, b: TreeView<'_>) -> bool
+    ensures same { result ≡ true → line_seen a.entry ≡ line_seen b.entry }
+    ensures told { line_seen a.entry ≡ line_seen b.entry → result ≡ true }
 {
     a == b
 }
 
-/// A number by which a line is looked up. Other lines may have it too.
-pub(crate) fn hash_of(line: &Line) -> u64 {
+/// A number by which a tree is looked up. Other trees may have it too.
+pub(crate) fn hash_of(tree: TreeView<'_>) -> u64 {
     let mut state = FoldHasher::default();
-    line.hash(&mut state);
+    tree.hash(&mut state);
     state.finish()
 }

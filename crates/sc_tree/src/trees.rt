@@ -92,7 +92,7 @@ impl Trees {
         ensures grows { Extends self.old self.new }
         ensures first { ChildrenFirst self.new }
     {
-        self.share(Line::Leaf(place, spelling))
+        self.share(TreeView::Leaf(place, spelling))
     }
 
     /// A node of a production with these children from left to right: the last tree where that is
@@ -113,8 +113,7 @@ impl Trees {
         ensures grows { Extends self.old self.new }
         ensures first { ChildrenFirst self.new }
     {
-        let alloc = *self.lines.allocator();
-        self.share(Line::Node(production, Vec::from_slice(alloc, children)?))
+        self.share(TreeView::Node(production, children))
     }
 
     /// A choice between trees, each under its condition: the last tree where that is one, or that
@@ -130,8 +129,7 @@ impl Trees {
         ensures grows { Extends self.old self.new }
         ensures first { ChildrenFirst self.new }
     {
-        let alloc = *self.lines.allocator();
-        self.share(Line::Choice(Vec::from_slice(alloc, branches)?))
+        self.share(TreeView::Choice(branches))
     }
 
     /// What the tree of an id is.
@@ -139,11 +137,7 @@ impl Trees {
         requires { id.0 < length self.now }
         ensures { slice_get self.now id.0 ≡ Some (line_seen result) }
     {
-        match &self.lines[id.0] {
-            Line::Leaf(place, spelling) => TreeView::Leaf(*place, *spelling),
-            Line::Node(production, children) => TreeView::Node(*production, children.as_slice()),
-            Line::Choice(branches) => TreeView::Choice(branches.as_slice()),
-        }
+        self.lines[id.0].view()
     }
 
     /// The names that the tree declares (C11 6.7.6), each with the configurations in which it does.
@@ -199,48 +193,51 @@ impl Trees {
 
     /// The last tree where it is this, or the tree that a call for a shared one gave, or else a new
     /// one.
-    fn share(&mut self, line: Line) -> Result<TreeId, OutOfMemory>
-        requires { All (λ child. child.0 < length self.old) (children_of (line_of line)) }
+    fn share(&mut self, tree: TreeView<'_>) -> Result<TreeId, OutOfMemory>
+        requires { All (λ child. child.0 < length self.old) (children_of (line_seen tree)) }
         ensures own { IfOk result (λ id. id.0 < length self.new) }
-        ensures named { IfOk result (λ id. slice_get self.new id.0 ≡ Some (line_of line)) }
-        ensures adds { OnOk result (AddsAtMost self.old self.new (line_of line)) }
+        ensures named { IfOk result (λ id. slice_get self.new id.0 ≡ Some (line_seen tree.entry)) }
+        ensures adds { OnOk result (AddsAtMost self.old self.new (line_seen tree.entry)) }
         ensures err { OnErr result (self.new ≡ self.old) }
 
         // at every outcome
-        ensures last { slice_get self.old (length self.old - 1) ≡ Some (line_of line) → self.new ≡ self.old }
+        ensures last { slice_get self.old (length self.old - 1) ≡ Some (line_seen tree.entry) → self.new ≡ self.old }
         ensures grows { Extends self.old self.new }
         ensures first { ChildrenFirst self.new }
     {
-        let hash = hash_of(&line);
-        match self.known(hash, &line) {
+        let hash = hash_of(tree);
+        match self.known(hash, tree) {
             Some(id) => Ok(id),
-            None => self.put_shared(hash, line),
+            None => {
+                let line = Line::new(*self.lines.allocator(), tree)?;
+                self.put_shared(hash, line)
+            }
         }
     }
 
     /// The last tree where it is this, or the tree that a call for a shared one gave.
-    fn known(&self, hash: u64, line: &Line) -> Option<TreeId>
+    fn known(&self, hash: u64, tree: TreeView<'_>) -> Option<TreeId>
         ensures own { IfSome result (λ id. id.0 < length self.now) }
-        ensures named { IfSome result (λ id. slice_get self.now id.0 ≡ Some (line_of line.now)) }
-        ensures last { result ≡ None → slice_get self.now (length self.now - 1) ≡ Some (line_of line.now) → ⊥ }
+        ensures named { IfSome result (λ id. slice_get self.now id.0 ≡ Some (line_seen tree.entry)) }
+        ensures last { result ≡ None → slice_get self.now (length self.now - 1) ≡ Some (line_seen tree.entry) → ⊥ }
         ensures first { ChildrenFirst self.now }
     {
-        if self.is_last(line) {
+        if self.is_last(tree) {
             return Some(TreeId(self.lines.len() - 1));
         }
         let id = *self.shared.get(&hash)?;
-        if id.0 < self.lines.len() && is_same(&self.lines[id.0], line) {
+        if id.0 < self.lines.len() && is_same(self.lines[id.0].view(), tree) {
             Some(id)
         } else {
             None
         }
     }
 
-    fn is_last(&self, line: &Line) -> bool
-        ensures { (result ≡ true) ↔ (slice_get self.now (length self.now - 1) ≡ Some (line_of line.now)) }
+    fn is_last(&self, tree: TreeView<'_>) -> bool
+        ensures { (result ≡ true) ↔ (slice_get self.now (length self.now - 1) ≡ Some (line_seen tree.entry)) }
     {
         match self.lines.last() {
-            Some(last) => is_same(last, line),
+            Some(last) => is_same(last.view(), tree),
             None => false,
         }
     }
