@@ -5,14 +5,8 @@ use Rattle.std.specs.Prelude.{◌≡◌, ℕ, ◌-◌, ◌<◌, ◌≤◌, List,
 abbrev pub slot_in : ℕ → ℕ → ℕ
 slot_in slots hash = bit_and hash (slots - 1)
 
--- the link, which is one more than a number, leads to the last number below the bound that has the
--- hash, or there is none and it is 0
-pub record IsLast (hashes : List ℕ) (bound hash link : ℕ) : Type 0 where
-  pub within : link ≤ bound
-  pub own : 0 < link → slice_index hashes (link - 1) ≡ hash
-  pub rest : (n : ℕ) → link ≤ n → n < bound → slice_index hashes n ≡ hash → ⊥
-
--- the same of the numbers whose hashes name a slot
+-- the link, which is one more than a number, leads to the last number below the bound whose hash
+-- names the slot, or there is none and it is 0
 pub record IsLink (slots : ℕ) (hashes : List ℕ) (bound slot link : ℕ) : Type 0 where
   pub within : link ≤ bound
   pub own : 0 < link → slot_in slots (slice_index hashes (link - 1)) ≡ slot
@@ -33,3 +27,10 @@ pub record AreLinked (l : Links) : Type 0 where
   pub some : 0 < length l.hashes → 0 < length l.newest
   pub slots : (slot : ℕ) → slot < length l.newest → IsLink (length l.newest) l.hashes (length l.hashes) slot (slice_index l.newest slot)
   pub numbers : (n : ℕ) → n < length l.hashes → IsLink (length l.newest) l.hashes n (slot_in (length l.newest) (slice_index l.hashes n)) (slice_index l.older n)
+
+-- the link leads to the last number below the bound whose hash names the slot of this hash, so no
+-- number between has the hash
+pub record IsCandidate (l : Links) (bound hash link : ℕ) : Type 0 where
+  pub within : link ≤ bound
+  pub own : 0 < link → slot_in (length l.newest) (slice_index l.hashes (link - 1)) ≡ slot_in (length l.newest) hash
+  pub rest : (n : ℕ) → link ≤ n → n < bound → slice_index l.hashes n ≡ hash → ⊥

@@ -1,6 +1,6 @@
 //! The numbers of what has a hash.
 ghost use Rattle.std.specs.Prelude.{◌≡◌, ◌+◌, ◌-◌, ◌<◌, ◌≤◌, [], ◌∷◌, ◌++◌, ℕ, List, length, slice_index, OnOk, OnErr, IfOk};
-ghost use Rattle.sc_diagram.specs.Chains.{AreLinked, IsLast, links, slot_in};
+ghost use Rattle.sc_diagram.specs.Chains.{AreLinked, IsCandidate, links, slot_in};
 
 use sc_base::OutOfMemory;
 use std::alloc::Global;
@@ -8,6 +8,9 @@ use std::marker::Model;
 
 /// The fewest slots.
 const FEWEST: usize = 256;
+
+/// How many slots there are for a number when there are more slots.
+const SLOTS: usize = 4;
 
 /// Numbers from 0 on, each with a hash. Those whose hashes name one slot are linked, the newest
 /// first. A link is one more than a number, and 0 where there is none.
@@ -39,23 +42,24 @@ impl Chains {
         }
     }
 
-    /// The link to the last number that has the hash.
-    pub fn last(&self, hash: u32) -> u32
-        ensures { IsLast self.now.hashes (length self.now.hashes) hash result }
+    /// The link to the newest number whose hash names the slot of this one.
+    pub fn newest(&self, hash: u32) -> u32
+        ensures { IsCandidate self.now (length self.now.hashes) hash result }
     {
         if self.newest.is_empty() {
             return 0;
         }
-        let slot = slot_in(self.newest.len(), hash);
-        self.last_from(self.newest[slot], hash)
+        self.newest[slot_in(self.newest.len(), hash)]
     }
 
-    /// The link to the last number before this one that has its hash.
-    pub fn last_before(&self, number: usize) -> u32
-        requires { number < length self.now.hashes }
-        ensures { IsLast self.now.hashes number (slice_index self.now.hashes number) result }
+    /// The link to the next older number of a number's slot, which is that of the hash.
+    pub fn older(&self, number: usize, hash: u32) -> u32
+        requires within { number < length self.now.hashes }
+        requires slot { slot_in (length self.now.newest) (slice_index self.now.hashes number) ≡ slot_in (length self.now.newest) hash }
+        ensures { IsCandidate self.now number hash result }
     {
-        self.last_from(self.older[number], self.hashes[number])
+        let _newest = &self.newest;
+        self.older[number]
     }
 
     /// Gives the next number a hash.
@@ -82,28 +86,11 @@ impl Chains {
         if count < self.newest.len() {
             return Ok(());
         }
-        let slots = count.saturating_mul(2).max(FEWEST);
+        let slots = count.saturating_mul(SLOTS).max(FEWEST);
         let (older, newest) = linked(*self.hashes.allocator(), &self.hashes, slots)?;
         self.older = older;
         self.newest = newest;
         Ok(())
-    }
-
-    /// The link to the last number that has the hash, of those of one slot to which the link leads.
-    fn last_from(&self, link: u32, hash: u32) -> u32
-        requires within { link ≤ length self.now.hashes }
-        requires own { 0 < link → slot_in (length self.now.newest) (slice_index self.now.hashes (link - 1)) ≡ slot_in (length self.now.newest) hash }
-        ensures { IsLast self.now.hashes link hash result }
-    {
-        let mut link = link;
-        while link > 0 {
-            let number = (link - 1) as usize;
-            if self.hashes[number] == hash {
-                return link;
-            }
-            link = self.older[number];
-        }
-        0
     }
 }
 

@@ -111,13 +111,13 @@ impl UniqueTable {
         ensures some { IfSome result (λ r. slice_get self.now r ≡ Some (branch variable children.now)) }
         ensures none { IfNone result (Contains self.now (branch variable children.now) → ⊥) }
     {
-        let mut link = self.chains.last(hash);
+        let mut link = self.chains.newest(hash);
         while link > 0 {
             let number = (link - 1) as usize;
             if self.is(number, variable, children) {
                 return Some(number);
             }
-            link = self.chains.last_before(number);
+            link = self.chains.older(number, hash);
         }
         None
     }

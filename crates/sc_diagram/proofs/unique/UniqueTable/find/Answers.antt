@@ -7,20 +7,20 @@ use Rattle.sc_diagram.proofs.unique.UniqueTable.find.Goals as goal
 
 pub loop-link-init : goal.loop-link-init
 loop-link-init c = record {
-  within = c.last-link.ensures.within;
-  own = c.last-link.ensures.own;
-  rest = λ n from at. c.last-link.ensures.rest n from (long n _ c.self.invariant (ap (λ bs. slice_get bs n) c.self.view_is ∙ at)) (let there = ap (λ bs. slice_get bs n) c.self.view_is ∙ at in hash_at n _ c.self.invariant there ∙ sym c.requires);
+  within = c.newest-link.ensures.within;
+  own = c.newest-link.ensures.own;
+  rest = λ n from at. c.newest-link.ensures.rest n from (long n _ c.self.invariant (ap (λ bs. slice_get bs n) c.self.view_is ∙ at)) (let there = ap (λ bs. slice_get bs n) c.self.view_is ∙ at in hash_at n _ c.self.invariant there ∙ sym c.requires);
 }
 
 pub loop-link-preserved : goal.loop-link-preserved
 loop-link-preserved c =
     let was = c.loop-link.invariant in
-    let last = c.last_before-link.ensures in
+    let last = c.older-link.ensures in
     record {
       within = omega (arith, last.within, was.within);
-      own = λ some. last.own some ∙ was.own c.loop-link-test.true;
+      own = last.own;
       rest = λ n from at. elim (cases_lt n (c.loop-link.link - 1)) [
-        | inl less ↦ last.rest n from less (let there = ap (λ bs. slice_get bs n) c.self.view_is ∙ at in hash_at n _ c.self.invariant there ∙ sym c.requires ∙ sym (was.own c.loop-link-test.true))
+        | inl less ↦ last.rest n from less (let there = ap (λ bs. slice_get bs n) c.self.view_is ∙ at in hash_at n _ c.self.invariant there ∙ sym c.requires)
         | inr more ↦ elim (cases_lt n c.loop-link.link) [
           | inl less ↦ c.is.ensures.no c.if-is.false (subst (λ k. slice_get c.args.self.now k ≡ Some (branch c.args.variable c.args.children.now)) (omega (arith, more, less)) at)
           | inr behind ↦ was.rest n behind at
