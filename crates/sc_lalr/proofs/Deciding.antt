@@ -1,5 +1,5 @@
 -- Which action is kept, and which are lost.
-use Rattle.std.proofs.Common.{zero, suc, ◌≡◌, ◌↔◌, ◌<◌, ◌≤◌, ◌+◌, ◌*◌, ◌⊎◌, ℕ, Bool, IsTrue, List, [], ◌∷◌, ◌++◌, length, slice_get, slice_index, map, zero-add, Option, Some, None, MatchOption, Vec, inl, inr, refl, sym, ap, ◌∙◌, subst, arith}
+use Rattle.std.proofs.Common.{zero, suc, ◌≡◌, ◌↔◌, ◌<◌, ◌≤◌, ◌+◌, ◌*◌, ◌⊎◌, ℕ, List, [], ◌∷◌, ◌++◌, length, slice_get, slice_index, map, zero-add, Option, Some, None, MatchOption, Vec, inl, inr, refl, sym, ap, ◌∙◌, subst, arith}
 use Rattle.std.specs.List.{Contains}
 use Rattle.std.specs.Option.{option_map}
 use Rattle.std.specs.List.Sorted.{IsStrictlyIncreasing, IsStrictlySortedBy}
@@ -16,11 +16,11 @@ use Rattle.lr_tables.specs.declared.grammar.Action.{Action}
 use Rattle.lr_tables.specs.declared.grammar.Action.TheVariants.{Shift, Reduce}
 use Rattle.lr_tables.specs.declared.grammar.Conflict.{Conflict}
 use Rattle.sc_items.specs.Kernel.{IsListOf}
-use Rattle.sc_items.specs.Reach.{marked}
 use Rattle.sc_items.specs.States.{HasItem}
 use Rattle.lr_tables.proofs.Determined.{action_unique}
 use Rattle.lr_tables.proofs.Members.{cons_cases, cons_head, cons_tail, head_below, map_has, map_member, no_member}
 use Rattle.sc_items.proofs.Opening.{each-push}
+use Rattle.sc_lalr.specs.Marks.{HasMark}
 use Rattle.sc_lalr.specs.Propagation.{AreNodes, AreLookaheads}
 use Rattle.sc_lalr.specs.declared.nodes.Nodes.{Nodes}
 use Rattle.sc_lalr.proofs.Placing.{node_of}
@@ -29,23 +29,23 @@ use Rattle.sc_lalr.specs.Building.{AreActions, AreConflicts}
 use Rattle.sc_lalr.proofs.Looking.{lookahead_has}
 
 -- ---- what can be reduced
-pub can_reduce : (g : Grammar) (states : List (List ℕ)) (nodes : Nodes) (s t : ℕ) (rows : List (Vec Bool Global)) (row : Vec Bool Global) (ends : List ℕ) → AreNodes g states nodes → AreLookaheads g states nodes rows → slice_get rows t ≡ Some row → IsListOf (length g.entries.now) (EndsIn g states s) ends → (p : ℕ) → IsMarkedEnd g row.items nodes.numbers.items (s * length g.entries.now) ends p ↔ CanReduce g states s t p
-can_reduce g states nodes s t rows row ends are ahead at list p = (
+pub can_reduce : (g : Grammar) (states : List (List ℕ)) (nodes : Nodes) (s k b : ℕ) (rows : List (Vec ℕ Global)) (row : Vec ℕ Global) (ends : List ℕ) → AreNodes g states nodes → AreLookaheads g states nodes rows → slice_get rows k ≡ Some row → b < 64 → k * 64 + b < g.terminals → IsListOf (length g.entries.now) (EndsIn g states s) ends → (p : ℕ) → IsMarkedEnd g row.items b nodes.numbers.items (s * length g.entries.now) ends p ↔ CanReduce g states s (k * 64 + b) p
+can_reduce g states nodes s k b rows row ends are ahead at b_in t_in list p = (
   λ m. record {
     item = m.item;
     ends = record { within = list.below m.item m.within; at_end = (list.sound m.item m.within).at_end; production = m.production };
-    ahead = (exact m.item (list.sound m.item m.within).has (list.below m.item m.within)).0 m.is_marked;
+    ahead = (exact m.item (list.sound m.item m.within).has (list.below m.item m.within)).0 m.has_mark;
   },
   λ r. record {
     item = r.item;
-    within = list.complete r.item r.ends.within (record { has = lookahead_has g states t s r.item r.ahead; at_end = r.ends.at_end });
-    is_marked = (exact r.item (lookahead_has g states t s r.item r.ahead) r.ends.within).1 r.ahead;
+    within = list.complete r.item r.ends.within (record { has = lookahead_has g states (k * 64 + b) s r.item r.ahead; at_end = r.ends.at_end });
+    has_mark = (exact r.item (lookahead_has g states (k * 64 + b) s r.item r.ahead) r.ends.within).1 r.ahead;
     production = r.ends.production;
   },
 )
   where
-    exact : (i : ℕ) → HasItem g states s i → i < length g.entries.now → IsTrue (marked row.items (slice_index nodes.numbers.items (s * length g.entries.now + i))) ↔ Lookahead g states t s i
-    exact i has within = ahead.exact t row at (slice_index nodes.numbers.items (s * length g.entries.now + i)) s i (node_of g states nodes are s i has within)
+    exact : (i : ℕ) → HasItem g states s i → i < length g.entries.now → HasMark row.items b (slice_index nodes.numbers.items (s * length g.entries.now + i)) ↔ Lookahead g states (k * 64 + b) s i
+    exact i has within = ahead.exact k row at b (slice_index nodes.numbers.items (s * length g.entries.now + i)) s i b_in t_in (node_of g states nodes are s i has within)
 
 -- ---- one action
 module _ (g : Grammar) (states : List (List ℕ)) (s t : ℕ) (are : IsStates g states) where

@@ -1,19 +1,22 @@
 -- The rows of what each symbol leads.
-use Rattle.std.proofs.Common.{zero, suc, ◌≡◌, ◌↔◌, ◌<◌, ◌≤◌, ◌+◌, ℕ, Bool, IsTrue, List, [], ◌∷◌, ◌++◌, length, get_or, slice_get, Some, Vec, inl, inr, refl, sym, ap, ◌∙◌, subst, arith}
+use Rattle.std.proofs.Common.{◌≡◌, ◌↔◌, ◌<◌, ◌≤◌, ◌+◌, ℕ, List, [], ◌∷◌, ◌++◌, length, get_or, slice_get, Some, Vec, inl, inr, refl, sym, ap, ◌∙◌, subst, arith}
+use Rattle.std.specs.Int.{bit_at}
 use Rattle.std.specs.List.{Contains}
 use Rattle.std.specs.declared.alloc.Global.{Global}
 use Rattle.std.proofs.lemmas.List.{length_push}
 use Rattle.std.proofs.lemmas.List.Elements.{Contains-push, Contains-append_left, Contains-push_cases, Contains-get_or}
-use Rattle.std.proofs.lemmas.Option.{same_Some, slice_get-get_or}
+use Rattle.std.proofs.lemmas.Option.{same_Some, slice_get-get_or, get_or_from_slice_get}
 use Rattle.std.proofs.lemmas.Bool.{cases_lt}
 use Rattle.lr_tables.specs.Grammar.{IsGrammar, after, begun}
 use Rattle.lr_tables.specs.Tables.{First, itself, derived}
 use Rattle.lr_tables.specs.declared.grammar.Grammar.{Grammar}
-use Rattle.sc_items.specs.Reach.{EdgesWithin, Reaches, start, step, IsReached, marked}
+use Rattle.sc_items.specs.Reach.{EdgesWithin}
 use Rattle.lr_tables.proofs.Members.{no_member, slice_some}
 use Rattle.sc_items.proofs.Opening.{each-push}
 use Rattle.sc_items.proofs.Exploring.{after_small, begun_small}
 use Rattle.sc_lalr.specs.First.{Leads, IsLeading}
+use Rattle.sc_lalr.specs.Marks.{HasMark, HaveOwnMarks, IsSpread, Spreads, start, step}
+use Rattle.sc_lalr.proofs.Spreading.{mark_within}
 
 -- the symbols that a symbol leads by the first items
 pub record IsLedBelow (g : Grammar) (y n : ℕ) (row : List ℕ) : Type 0 where
@@ -79,18 +82,19 @@ EdgesWithin-done g n rows grammar e h = record {
       omega (arith, begun_small g l.item (get_or row.items k z) grammar l.begins, e, h.long);
 }
 
--- what a terminal begins is what can be reached from it
-pub first_is : (g : Grammar) (rows : List (Vec ℕ Global)) (t : ℕ) (starts : List ℕ) (marks : List Bool) → IsLeading g rows → starts ≡ t ∷ [] → IsReached rows starts marks → (x : ℕ) → IsTrue (marked marks x) ↔ First g t x
-first_is g rows t starts marks h e r x = (λ m. to x (subst (λ zs. Reaches rows zs x) e (r.sound x m)), λ f. r.complete x (subst (λ zs. Reaches rows zs x) (sym e) (from x f)))
+-- what a symbol begins is what has its mark, once all marks are passed on
+pub first_is : (g : Grammar) (rows : List (Vec ℕ Global)) (from b : ℕ) (own words : List ℕ) → IsLeading g rows → b < 64 → from + b < length rows → length own ≡ length rows → HaveOwnMarks from own → IsSpread rows own words → (x : ℕ) → HasMark words b x ↔ First g (from + b) x
+first_is g rows from b own words h b_in t_in long are spread x = (λ m. to x (spread.sound b x m), λ f. spread.complete b x (back x f))
   where
-    only : (z : ℕ) → Contains (t ∷ []) z → t ≡ z
-    only z (zero, a, b) = b
-    only z (suc k, a, b) = absurd (omega (arith, a))
-
-    to : (z : ℕ) → Reaches rows (t ∷ []) z → First g t z
-    to z (start v w) = subst (First g t) (only v w) itself
+    to : (z : ℕ) → Spreads rows own b z → First g (from + b) z
+    to z (start v m) =
+        let word = slice_some own v (mark_within own b v m) in
+        let same : v ≡ from + b = (are.each v word.0 word.1 b b_in).0 (ap (λ w. bit_at w b) (sym (get_or_from_slice_get own v word.0 0 word.1)) ∙ m) in
+        subst (First g (from + b)) (sym same) itself
     to z (step u v reaches edge) = let l = h.sound u v edge in derived v l.item u l.begins l.first (to u reaches)
 
-    from : (z : ℕ) → First g t z → Reaches rows (t ∷ []) z
-    from z itself = start t (0, omega arith, refl)
-    from z (derived v i y begins first f) = step y v (from y f) (h.complete y v (record { item = i; begins = begins; first = first }))
+    back : (z : ℕ) → First g (from + b) z → Spreads rows own b z
+    back z itself =
+        let word = slice_some own (from + b) (omega (arith, t_in, long)) in
+        start (from + b) (ap (λ w. bit_at w b) (get_or_from_slice_get own (from + b) word.0 0 word.1) ∙ (are.each (from + b) word.0 word.1 b b_in).1 refl)
+    back z (derived v i y begins first f) = step y v (back y f) (h.complete y v (record { item = i; begins = begins; first = first }))

@@ -4,4 +4,5 @@ pub mod Looking
 pub mod Passing
 pub mod Placing
 pub mod Reducing
+pub mod Spreading
 pub mod Tabling

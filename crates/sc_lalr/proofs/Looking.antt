@@ -1,67 +1,34 @@
 -- Lookaheads are what can be reached from the spontaneous ones.
-use Rattle.std.proofs.Common.{◌≡◌, ◌↔◌, ◌<◌, ◌+◌, ◌*◌, ◌/◌, ◌%◌, ℕ, Bool, true, false, cond, IsTrue, List, [], ◌∷◌, ◌++◌, length, slice_get, slice_index, Option, Some, None, Vec, refl, sym, ap, ◌∙◌, subst, arith, mul-le-mul_left}
-use Rattle.std.specs.List.{Contains, flat_map}
+use Rattle.std.proofs.Common.{◌≡◌, ◌↔◌, ◌<◌, ◌+◌, ◌*◌, ◌/◌, ◌%◌, ℕ, List, [], ◌∷◌, ◌++◌, length, slice_get, slice_index, Some, None, Vec, refl, sym, ap, ◌∙◌, subst, arith, mul-le-mul_left, ◌⊎◌, get_or, replicate, take, inl, inr}
+use Rattle.std.specs.Int.{bit_at}
+use Rattle.std.specs.List.{Contains}
 use Rattle.std.specs.Option.{option_map_or}
 use Rattle.std.specs.declared.alloc.Global.{Global}
 use Rattle.std.proofs.lemmas.List.{length_push}
-use Rattle.std.proofs.lemmas.Option.{same_Some}
+use Rattle.std.proofs.lemmas.Option.{same_Some, none-some}
 use Rattle.std.proofs.lemmas.Nat.{div_below}
 use Rattle.lr_tables.specs.Grammar.{after, begun}
 use Rattle.lr_tables.specs.Tables.{opened as closure_opened, First, Lookahead, spontaneous, opened, moved}
 use Rattle.lr_tables.specs.declared.grammar.Grammar.{Grammar}
 use Rattle.lr_tables.proofs.Members.{map_has, map_member, no_member, slice_some}
-use Rattle.sc_items.specs.Reach.{Edge, Reaches, start, step, IsReached, marked}
+use Rattle.sc_items.specs.Reach.{Edge}
 use Rattle.sc_items.specs.Kernel.{IsOpened, Opens}
 use Rattle.sc_items.specs.States.{HasItem}
-use Rattle.sc_items.proofs.Listing.{IsCollected}
+use Rattle.sc_items.proofs.Listing.{IsCollected, take-more_cases, take-more_new, take-more_old}
 use Rattle.sc_items.proofs.Opening.{each-push, begun_within, after_within}
-use Rattle.sc_lalr.specs.Propagation.{AreNodes, IsNode, Passes, along, into, PassesTo, IsPropagation, HasPlace, IsFollowed, IsSource, AreSources, IsSpontaneous, PlaceFits, behind_of, numbers_at, opened_part, row_at, seed_part}
+use Rattle.sc_lalr.specs.Propagation.{AreNodes, IsNode, Passes, along, into, PassesTo, IsPropagation, HasPlace, IsFollowed, IsSource, AreSources, IsSpontaneous, PlaceFits, SeedFits, Seeds, behind_of, numbers_at, opened_part, row_at}
+use Rattle.sc_lalr.specs.Marks.{HasMark, IsGiven, IsSpread, Spreads, start, step}
 use Rattle.sc_lalr.specs.declared.nodes.Nodes.{Nodes}
 use Rattle.sc_lalr.proofs.Placing.{some_entries, place_same, place_at, place_in, has_at, node_same, node_in, node_number, node_of}
-use Rattle.sc_lalr.proofs.Passing.{flat_to, flat_from, row_opens, passes_has}
+use Rattle.sc_lalr.proofs.Passing.{row_opens, passes_has}
+use Rattle.sc_lalr.proofs.Spreading.{no_mark_yet}
 
--- ---- what one place seeds
+-- ---- the row of an item
 pub row_at_is : (rows : List (Vec ℕ Global)) (i : ℕ) (row : Vec ℕ Global) → slice_get rows i ≡ Some row → row_at rows i ≡ row.items
 row_at_is rows i row at = ap (λ o. option_map_or (λ (r : Vec ℕ Global). r.items) o []) at
 
--- what is seeded, at the symbol behind
-seed_at : Grammar → List ℕ → List (Vec ℕ Global) → List Bool → ℕ → ℕ → List ℕ
-seed_at g numbers rows begin p y = cond (marked begin y) (numbers_at numbers (p / length g.entries.now * length g.entries.now) (row_at rows (p % length g.entries.now))) []
-
 pub opened_is : (g : Grammar) (numbers : List ℕ) (rows : List (Vec ℕ Global)) (p : ℕ) (row : Vec ℕ Global) (view : List ℕ) → slice_get rows (p % length g.entries.now) ≡ Some row → view ≡ row.items → opened_part g numbers rows p ≡ numbers_at numbers (p / length g.entries.now * length g.entries.now) view
 opened_is g numbers rows p row view at f = ap (numbers_at numbers (p / length g.entries.now * length g.entries.now)) (row_at_is rows (p % length g.entries.now) row at ∙ sym f)
-
-pub seed_yes : (g : Grammar) (numbers : List ℕ) (rows : List (Vec ℕ Global)) (begin : List Bool) (p y : ℕ) → behind_of g p ≡ Some y → marked begin y ≡ true → seed_part g numbers rows begin p ≡ opened_part g numbers rows p
-unfolding seed_at
-seed_yes g numbers rows begin p y e m = ap (λ o. option_map_or (seed_at g numbers rows begin p) o []) e ∙ ap (λ b. cond b (opened_part g numbers rows p) []) m
-
-pub seed_no : (g : Grammar) (numbers : List ℕ) (rows : List (Vec ℕ Global)) (begin : List Bool) (p y : ℕ) → behind_of g p ≡ Some y → marked begin y ≡ false → seed_part g numbers rows begin p ≡ []
-unfolding seed_at
-seed_no g numbers rows begin p y e m = ap (λ o. option_map_or (seed_at g numbers rows begin p) o []) e ∙ ap (λ b. cond b (opened_part g numbers rows p) []) m
-
-pub seed_none : (g : Grammar) (numbers : List ℕ) (rows : List (Vec ℕ Global)) (begin : List Bool) (p : ℕ) → behind_of g p ≡ None → seed_part g numbers rows begin p ≡ []
-unfolding seed_at
-seed_none g numbers rows begin p e = ap (λ o. option_map_or (seed_at g numbers rows begin p) o []) e
-
-record Seeds (g : Grammar) (numbers : List ℕ) (rows : List (Vec ℕ Global)) (begin : List Bool) (p v : ℕ) : Type 0 where
-  next : ℕ
-  next_is : after g (p % length g.entries.now + 1) ≡ Some next
-  begins : IsTrue (marked begin next)
-  item : ℕ
-  in_row : Contains (row_at rows (p % length g.entries.now)) item
-  number : v ≡ slice_index numbers (p / length g.entries.now * length g.entries.now + item)
-
-seeds_of : (g : Grammar) (numbers : List ℕ) (rows : List (Vec ℕ Global)) (begin : List Bool) (p v : ℕ) → Contains (seed_part g numbers rows begin p) v → Seeds g numbers rows begin p v
-unfolding seed_at
-seeds_of g numbers rows begin p v w = go (after g (p % length g.entries.now + 1)) refl w
-  where
-    inner : (y : ℕ) → after g (p % length g.entries.now + 1) ≡ Some y → (b : Bool) → marked begin y ≡ b → Contains (cond b (numbers_at numbers (p / length g.entries.now * length g.entries.now) (row_at rows (p % length g.entries.now))) []) v → Seeds g numbers rows begin p v
-    inner y e true m x = let j = map_member (λ j. slice_index numbers (p / length g.entries.now * length g.entries.now + j)) v (row_at rows (p % length g.entries.now)) x in record { next = y; next_is = e; begins = m; item = j.0; in_row = j.1; number = sym j.2 }
-    inner y e false m x = absurd (no_member v x)
-
-    go : (o : Option ℕ) → after g (p % length g.entries.now + 1) ≡ o → Contains (option_map_or (seed_at g numbers rows begin p) o []) v → Seeds g numbers rows begin p v
-    go None e x = absurd (no_member v x)
-    go (Some y) e x = inner y e (marked begin y) refl x
 
 -- ---- an item with a lookahead stands in the state
 pub lookahead_has : (g : Grammar) (states : List (List ℕ)) (t s i : ℕ) → Lookahead g states t s i → HasItem g states s i
@@ -69,54 +36,57 @@ lookahead_has g states t s i (spontaneous r k j x y kernel at c over next first 
 lookahead_has g states t s i (opened r k j x l over end begins) = passes_has g states r k r j (into x j (lookahead_has g states t r k l) over end begins)
 lookahead_has g states t s i (moved q k x r l over goto) = passes_has g states q k r (k + 1) (along x r (lookahead_has g states t q k l) over goto)
 
--- ---- all of them
-module _ (g : Grammar) (states : List (List ℕ)) (nodes : Nodes) (t : ℕ) (rows edges : List (Vec ℕ Global)) (begin marks : List Bool) (sources starts : List ℕ) (nodes_are : AreNodes g states nodes) (rows_are : IsOpened g rows) (edges_are : IsPropagation g states nodes edges) (begin_is : (x : ℕ) → IsTrue (marked begin x) ↔ First g t x) (sources_are : AreSources g states sources) (starts_are : starts ≡ flat_map (seed_part g nodes.numbers.items rows begin) sources) where
-  start_to : (v : ℕ) → Contains starts v → IsSpontaneous g states nodes t v
-  start_to v w =
-      let p = flat_to (seed_part g nodes.numbers.items rows begin) v sources (subst (λ zs. Contains zs v) starts_are w) in
-      let source = sources_are.sound p.0 p.1 in
-      let n_pos : 0 < length g.entries.now = omega (arith, source.at.within) in
-      let seeds = seeds_of g nodes.numbers.items rows begin p.0 v p.2 in
-      let same = place_same (length g.entries.now) p.0 source.s source.i (p.0 / length g.entries.now) (p.0 % length g.entries.now) source.at (place_at (length g.entries.now) p.0 n_pos) in
-      let i_in : p.0 % length g.entries.now < length rows = omega (arith, rows_are.long, source.at.within, same.1) in
-      let row = slice_some rows (p.0 % length g.entries.now) i_in in
-      let opens = (row_opens g rows (p.0 % length g.entries.now) row.0 (row_at rows (p.0 % length g.entries.now)) rows_are row.1 (row_at_is rows (p.0 % length g.entries.now) row.0 row.1) seeds.item).0 seeds.in_row in
-      let next_same : seeds.next ≡ source.followed.y = same_Some seeds.next source.followed.y (sym seeds.next_is ∙ subst (λ z. after g (z + 1) ≡ Some source.followed.y) same.1 source.followed.next) in
-      let over_same : opens.symbol ≡ source.followed.x = same_Some opens.symbol source.followed.x (sym opens.over ∙ subst (λ z. after g z ≡ Some source.followed.x) same.1 source.followed.over) in
-      let begins : begun g seeds.item ≡ Some source.followed.x = opens.begins ∙ ap (λ z. Some z) over_same in
-      let has : HasItem g states source.s seeds.item = record { kernel = source.has.kernel; kernel_at = source.has.kernel_at; within = closure_opened source.i seeds.item source.followed.x source.has.within source.followed.over begins } in
-      let number : v ≡ slice_index nodes.numbers.items (source.s * length g.entries.now + seeds.item) = seeds.number ∙ ap (λ z. slice_index nodes.numbers.items (z * length g.entries.now + seeds.item)) (sym same.0) in
-      record {
-        by = p.0;
-        seeded = record {
-          source = source;
-          j = seeds.item;
-          to = subst (λ z. IsNode (length g.entries.now) nodes z source.s seeds.item) (sym number) (node_of g states nodes nodes_are source.s seeds.item has (begun_within g seeds.item opens.symbol opens.begins));
-          first = subst (λ z. First g t z) next_same ((begin_is seeds.next).0 seeds.begins);
-          begins = begins;
-        };
-      }
+-- ---- what a source opens
+module _ (g : Grammar) (states : List (List ℕ)) (nodes : Nodes) (rows : List (Vec ℕ Global)) (nodes_are : AreNodes g states nodes) (rows_are : IsOpened g rows) (p : ℕ) (source : IsSource g states p) where
+  place : (source.s ≡ p / length g.entries.now) × (source.i ≡ p % length g.entries.now)
+  place = place_same (length g.entries.now) p source.s source.i (p / length g.entries.now) (p % length g.entries.now) source.at (place_at (length g.entries.now) p (omega (arith, source.at.within)))
 
-  pub start_within : (v : ℕ) → Contains starts v → v < length nodes.places.items
-  start_within v w = let h = (start_to v w).seeded in node_in (length g.entries.now) nodes v h.source.s h.j h.to
+  pub behind_is : behind_of g p ≡ Some source.followed.y
+  behind_is = subst (λ z. after g (z + 1) ≡ Some source.followed.y) place.1 source.followed.next
 
-  start_from : (v : ℕ) → IsSpontaneous g states nodes t v → Contains starts v
+  row : (j : ℕ) → Contains (row_at rows (p % length g.entries.now)) j ↔ Opens g (p % length g.entries.now) j
+  row j =
+      let row = slice_some rows (p % length g.entries.now) (omega (arith, rows_are.long, source.at.within, place.1)) in
+      row_opens g rows (p % length g.entries.now) row.0 (row_at rows (p % length g.entries.now)) rows_are row.1 (row_at_is rows (p % length g.entries.now) row.0 row.1) j
+
+  pub opened_to : (v : ℕ) → Contains (opened_part g nodes.numbers.items rows p) v → (j : ℕ) × IsNode (length g.entries.now) nodes v source.s j × (begun g j ≡ Some source.followed.x)
+  opened_to v w =
+      let m = map_member (λ j. slice_index nodes.numbers.items (p / length g.entries.now * length g.entries.now + j)) v (row_at rows (p % length g.entries.now)) w in
+      let opens = (row m.0).0 m.1 in
+      let over_same : opens.symbol ≡ source.followed.x = same_Some opens.symbol source.followed.x (sym opens.over ∙ subst (λ z. after g z ≡ Some source.followed.x) place.1 source.followed.over) in
+      let begins : begun g m.0 ≡ Some source.followed.x = opens.begins ∙ ap (λ z. Some z) over_same in
+      let has : HasItem g states source.s m.0 = record { kernel = source.has.kernel; kernel_at = source.has.kernel_at; within = closure_opened source.i m.0 source.followed.x source.has.within source.followed.over begins } in
+      let number : slice_index nodes.numbers.items (source.s * length g.entries.now + m.0) ≡ v = ap (λ z. slice_index nodes.numbers.items (z * length g.entries.now + m.0)) place.0 ∙ m.2 in
+      (m.0, subst (λ z. IsNode (length g.entries.now) nodes z source.s m.0) number (node_of g states nodes nodes_are source.s m.0 has (begun_within g m.0 opens.symbol opens.begins)), begins)
+
+  pub opened_from : (v j : ℕ) → IsNode (length g.entries.now) nodes v source.s j → begun g j ≡ Some source.followed.x → Contains (opened_part g nodes.numbers.items rows p) v
+  opened_from v j at begins =
+      let opens : Opens g (p % length g.entries.now) j = record { symbol = source.followed.x; over = subst (λ z. after g z ≡ Some source.followed.x) place.1 source.followed.over; begins = begins } in
+      let here : v ≡ slice_index nodes.numbers.items (p / length g.entries.now * length g.entries.now + j) = node_number g states nodes nodes_are v source.s j at ∙ ap (λ z. slice_index nodes.numbers.items (z * length g.entries.now + j)) place.0 in
+      rw here (map_has (λ j. slice_index nodes.numbers.items (p / length g.entries.now * length g.entries.now + j)) j (row_at rows (p % length g.entries.now)) ((row j).1 opens))
+
+-- ---- all of them, for one mark
+module _ (g : Grammar) (states : List (List ℕ)) (nodes : Nodes) (t b : ℕ) (rows edges : List (Vec ℕ Global)) (first starts marks sources : List ℕ) (nodes_are : AreNodes g states nodes) (rows_are : IsOpened g rows) (edges_are : IsPropagation g states nodes edges) (first_is : (x : ℕ) → HasMark first b x ↔ First g t x) (sources_are : AreSources g states sources) (starts_are : (v : ℕ) → HasMark starts b v ↔ Seeds g nodes rows first sources b v) where
+  start_to : (v : ℕ) → HasMark starts b v → IsSpontaneous g states nodes t v
+  start_to v m =
+      let s = (starts_are v).0 m in
+      let source = sources_are.sound s.place s.within in
+      let o = opened_to g states nodes rows nodes_are rows_are s.place source v s.opens in
+      let next_same : s.next ≡ source.followed.y = same_Some s.next source.followed.y (sym s.next_is ∙ behind_is g states nodes rows nodes_are rows_are s.place source) in
+      record { by = s.place; seeded = record { source = source; j = o.0; to = o.1; first = subst (First g t) next_same ((first_is s.next).0 s.has); begins = o.2 } }
+
+  start_from : (v : ℕ) → IsSpontaneous g states nodes t v → HasMark starts b v
   start_from v q =
-      let p = q.by in
-      let h = q.seeded in
-      let source = h.source in
-      let n_pos : 0 < length g.entries.now = omega (arith, source.at.within) in
-      let same = place_same (length g.entries.now) p source.s source.i (p / length g.entries.now) (p % length g.entries.now) source.at (place_at (length g.entries.now) p n_pos) in
-      let i_in : p % length g.entries.now < length rows = omega (arith, rows_are.long, source.at.within, same.1) in
-      let row = slice_some rows (p % length g.entries.now) i_in in
-      let opens : Opens g (p % length g.entries.now) h.j = record { symbol = source.followed.x; over = subst (λ z. after g z ≡ Some source.followed.x) same.1 source.followed.over; begins = h.begins } in
-      let in_row = (row_opens g rows (p % length g.entries.now) row.0 row.0.items rows_are row.1 refl h.j).1 opens in
-      let part = seed_yes g nodes.numbers.items rows begin p source.followed.y (subst (λ z. after g (z + 1) ≡ Some source.followed.y) same.1 source.followed.next) ((begin_is source.followed.y).1 h.first) ∙ opened_is g nodes.numbers.items rows p row.0 row.0.items row.1 refl in
-      let here : v ≡ slice_index nodes.numbers.items (p / length g.entries.now * length g.entries.now + h.j) = node_number g states nodes nodes_are v source.s h.j h.to ∙ ap (λ z. slice_index nodes.numbers.items (z * length g.entries.now + h.j)) same.0 in
-      let seeded : Contains (seed_part g nodes.numbers.items rows begin p) v = rw (part, here) (map_has (λ j. slice_index nodes.numbers.items (p / length g.entries.now * length g.entries.now + j)) h.j row.0.items in_row) in
-      subst (λ zs. Contains zs v) (sym starts_are) (flat_from (seed_part g nodes.numbers.items rows begin) v p sources (sources_are.complete p source) seeded)
+      let h = q.seeded in (starts_are v).1 (record {
+        place = q.by;
+        within = sources_are.complete q.by h.source;
+        next = h.source.followed.y;
+        next_is = behind_is g states nodes rows nodes_are rows_are q.by h.source;
+        has = (first_is h.source.followed.y).1 h.first;
+        opens = opened_from g states nodes rows nodes_are rows_are q.by h.source v h.j h.to h.begins;
+      })
 
-  lookahead_to : (v : ℕ) → Reaches edges starts v → (s i : ℕ) → IsNode (length g.entries.now) nodes v s i → Lookahead g states t s i
+  lookahead_to : (v : ℕ) → Spreads edges starts b v → (s i : ℕ) → IsNode (length g.entries.now) nodes v s i → Lookahead g states t s i
   lookahead_to v (start z w) s i at =
       let p = start_to z w in
       let h = p.seeded in
@@ -145,7 +115,7 @@ module _ (g : Grammar) (states : List (List ℕ)) (nodes : Nodes) (t : ℕ) (row
   unfolding number
   node s i has within = node_of g states nodes nodes_are s i has within
 
-  reaches_next : (s i r j : ℕ) → Reaches edges starts (number s i) → HasItem g states s i → i < length g.entries.now → j < length g.entries.now → Passes g states s i r j → Reaches edges starts (number r j)
+  reaches_next : (s i r j : ℕ) → Spreads edges starts b (number s i) → HasItem g states s i → i < length g.entries.now → j < length g.entries.now → Passes g states s i r j → Spreads edges starts b (number r j)
   reaches_next s i r j reaches has i_in j_in p =
       step (number s i) (number r j) reaches
       (edge_of (number s i) (number r j) (record {
@@ -158,7 +128,7 @@ module _ (g : Grammar) (states : List (List ℕ)) (nodes : Nodes) (t : ℕ) (row
         passes = p;
       }))
 
-  lookahead_from : (s i : ℕ) → Lookahead g states t s i → Reaches edges starts (number s i)
+  lookahead_from : (s i : ℕ) → Lookahead g states t s i → Spreads edges starts b (number s i)
   lookahead_from s i (spontaneous r k j x y kernel at c over next first begins) =
       let has : HasItem g states r k = record { kernel = kernel; kernel_at = at; within = c } in
       let k_in : k < length g.entries.now = omega (arith, after_within g k x over) in
@@ -179,24 +149,24 @@ module _ (g : Grammar) (states : List (List ℕ)) (nodes : Nodes) (t : ℕ) (row
       let has = lookahead_has g states t q k l in
       reaches_next q k r (k + 1) (lookahead_from q k l) has (omega (arith, after_within g k x over)) (after_within g k x over) (along x r has over goto)
 
-  pub lookahead_exact : IsReached edges starts marks → (u s i : ℕ) → IsNode (length g.entries.now) nodes u s i → IsTrue (marked marks u) ↔ Lookahead g states t s i
+  pub lookahead_exact : IsSpread edges starts marks → (u s i : ℕ) → IsNode (length g.entries.now) nodes u s i → HasMark marks b u ↔ Lookahead g states t s i
   unfolding number
-  lookahead_exact reached u s i at = (
-    λ m. lookahead_to u (reached.sound u m) s i at,
-    λ l. reached.complete u (subst (Reaches edges starts) (sym (node_number g states nodes nodes_are u s i at)) (lookahead_from s i l)),
+  lookahead_exact spread u s i at = (
+    λ m. lookahead_to u (spread.sound b u m) s i at,
+    λ l. spread.complete b u (subst (Spreads edges starts b) (sym (node_number g states nodes nodes_are u s i at)) (lookahead_from s i l)),
   )
 
--- ---- the rows of the first terminals
-pub record AreLookaheadsBelow (g : Grammar) (states : List (List ℕ)) (nodes : Nodes) (n : ℕ) (rows : List (Vec Bool Global)) : Type 0 where
+-- ---- the words of the first terminals
+pub record AreLookaheadsBelow (g : Grammar) (states : List (List ℕ)) (nodes : Nodes) (n : ℕ) (rows : List (Vec ℕ Global)) : Type 0 where
   pub long : length rows ≡ n
-  pub each : (t : ℕ) (row : Vec Bool Global) → slice_get rows t ≡ Some row → length row.items ≡ length nodes.places.items
-  pub exact : (t : ℕ) (row : Vec Bool Global) → slice_get rows t ≡ Some row → (u s i : ℕ) → IsNode (length g.entries.now) nodes u s i → IsTrue (marked row.items u) ↔ Lookahead g states t s i
+  pub each : (k : ℕ) (row : Vec ℕ Global) → slice_get rows k ≡ Some row → length row.items ≡ length nodes.places.items
+  pub exact : (k : ℕ) (row : Vec ℕ Global) → slice_get rows k ≡ Some row → (b u s i : ℕ) → b < 64 → k * 64 + b < g.terminals → IsNode (length g.entries.now) nodes u s i → HasMark row.items b u ↔ Lookahead g states (k * 64 + b) s i
 
-pub AreLookaheadsBelow-push : (g : Grammar) (states : List (List ℕ)) (nodes : Nodes) (n : ℕ) (rows : List (Vec Bool Global)) (row : Vec Bool Global) → AreLookaheadsBelow g states nodes n rows → length row.items ≡ length nodes.places.items → ((u s i : ℕ) → IsNode (length g.entries.now) nodes u s i → IsTrue (marked row.items u) ↔ Lookahead g states n s i) → AreLookaheadsBelow g states nodes (n + 1) (rows ++ row ∷ [])
+pub AreLookaheadsBelow-push : (g : Grammar) (states : List (List ℕ)) (nodes : Nodes) (n : ℕ) (rows : List (Vec ℕ Global)) (row : Vec ℕ Global) → AreLookaheadsBelow g states nodes n rows → length row.items ≡ length nodes.places.items → ((b u s i : ℕ) → b < 64 → n * 64 + b < g.terminals → IsNode (length g.entries.now) nodes u s i → HasMark row.items b u ↔ Lookahead g states (n * 64 + b) s i) → AreLookaheadsBelow g states nodes (n + 1) (rows ++ row ∷ [])
 AreLookaheadsBelow-push g states nodes n rows row h long exact = record {
   long = length_push rows row ∙ ap (λ k. k + 1) h.long;
-  each = each-push (λ t (r : Vec Bool Global). length r.items ≡ length nodes.places.items) rows row n h.long h.each long;
-  exact = each-push (λ t (r : Vec Bool Global). (u s i : ℕ) → IsNode (length g.entries.now) nodes u s i → IsTrue (marked r.items u) ↔ Lookahead g states t s i) rows row n h.long h.exact exact;
+  each = each-push (λ k (r : Vec ℕ Global). length r.items ≡ length nodes.places.items) rows row n h.long h.each long;
+  exact = each-push (λ k (r : Vec ℕ Global). (b u s i : ℕ) → b < 64 → k * 64 + b < g.terminals → IsNode (length g.entries.now) nodes u s i → HasMark r.items b u ↔ Lookahead g states (k * 64 + b) s i) rows row n h.long h.exact exact;
 }
 
 -- ---- each item of the state of a place has a number
@@ -233,3 +203,45 @@ AreSources-done g states nodes sources are h = record {
 
 pub source_fits : (g : Grammar) (states : List (List ℕ)) (p : ℕ) → IsSource g states p → PlaceFits (length g.entries.now) (length states * length g.entries.now) p
 source_fits g states p h = place_fits (length states) (length g.entries.now) p (subst (λ z. z < length states * length g.entries.now) (sym h.at.is) (place_in g states h.s h.i h.has h.at.within))
+
+pub seed_fits : (g : Grammar) (states : List (List ℕ)) (nodes : Nodes) (rows : List (Vec ℕ Global)) (p : ℕ) → AreNodes g states nodes → IsOpened g rows → IsSource g states p → SeedFits g nodes rows p
+seed_fits g states nodes rows p are rows_are source = record {
+  place = subst (λ z. PlaceFits (length g.entries.now) z p) (sym are.long) (source_fits g states p source);
+  within = λ v w. let o = opened_to g states nodes rows are rows_are p source v w in node_in (length g.entries.now) nodes v source.s o.0 o.1;
+}
+
+-- ---- what the first sources give
+module _ (g : Grammar) (nodes : Nodes) (rows : List (Vec ℕ Global)) (first : List ℕ) where
+  pub Seeds-none : (n b v : ℕ) → HasMark (replicate n 0) b v ↔ Seeds g nodes rows first [] b v
+  Seeds-none n b v = (λ m. absurd (no_mark_yet n b v m), λ s. absurd (no_member s.place s.within))
+
+  Seeds-old : (sources : List ℕ) (k b v : ℕ) → k < length sources → Seeds g nodes rows first (take k sources) b v → Seeds g nodes rows first (take (k + 1) sources) b v
+  Seeds-old sources k b v k_in s = record { place = s.place; within = take-more_old sources k s.place k_in s.within; next = s.next; next_is = s.next_is; has = s.has; opens = s.opens }
+
+  -- a seed of the first k + 1 sources is one of the first k, or of the next one
+  Seeds-cases : (sources : List ℕ) (k b v : ℕ) → k < length sources → (s : Seeds g nodes rows first (take (k + 1) sources) b v) → Seeds g nodes rows first (take k sources) b v ⊎ (s.place ≡ get_or sources k 0)
+  Seeds-cases sources k b v k_in s = elim (take-more_cases sources k s.place k_in s.within) [
+    | inl a ↦ inl (record { place = s.place; within = a; next = s.next; next_is = s.next_is; has = s.has; opens = s.opens })
+    | inr e ↦ inr (sym e)
+  ]
+
+  pub Seeds-left : (sources words : List ℕ) (k : ℕ) → k < length sources → behind_of g (get_or sources k 0) ≡ None → ((b v : ℕ) → HasMark words b v ↔ Seeds g nodes rows first (take k sources) b v) → (b v : ℕ) → HasMark words b v ↔ Seeds g nodes rows first (take (k + 1) sources) b v
+  Seeds-left sources words k k_in none h b v = (
+    λ m. Seeds-old sources k b v k_in ((h b v).0 m),
+    λ s. elim (Seeds-cases sources k b v k_in s) [ inl a ↦ (h b v).1 a | inr e ↦ absurd (none-some s.next (sym none ∙ ap (behind_of g) (sym e) ∙ s.next_is)) ],
+  )
+
+  pub Seeds-more : (sources now new : List ℕ) (k next word : ℕ) → k < length sources → behind_of g (get_or sources k 0) ≡ Some next → word ≡ slice_index first next → IsGiven now new (opened_part g nodes.numbers.items rows (get_or sources k 0)) word → ((b v : ℕ) → HasMark now b v ↔ Seeds g nodes rows first (take k sources) b v) → (b v : ℕ) → HasMark new b v ↔ Seeds g nodes rows first (take (k + 1) sources) b v
+  Seeds-more sources now new k next word k_in some word_is given h b v = (
+    λ m. elim ((given.each b v).0 m) [
+      | inl a ↦ Seeds-old sources k b v k_in ((h b v).0 a)
+      | inr a ↦ record { place = get_or sources k 0; within = take-more_new sources k k_in; next = next; next_is = some; has = subst (λ w. bit_at w b ≡ 1) word_is a.1; opens = a.0 }
+    ],
+    λ s. (given.each b v).1 (elim (Seeds-cases sources k b v k_in s) [
+      | inl a ↦ inl ((h b v).1 a)
+      | inr e ↦ inr (subst (λ p. Contains (opened_part g nodes.numbers.items rows p) v) e s.opens, same_next s e)
+    ]),
+  )
+    where
+      same_next : (s : Seeds g nodes rows first (take (k + 1) sources) b v) → s.place ≡ get_or sources k 0 → bit_at word b ≡ 1
+      same_next s e = rw (word_is, same_Some next s.next (sym some ∙ ap (behind_of g) (sym e) ∙ s.next_is)) s.has

@@ -1,6 +1,6 @@
 -- How lookaheads are passed on.
 use Rattle.std.proofs.Common.{zero, suc, ◌≡◌, ◌↔◌, ◌<◌, ◌+◌, ◌*◌, ◌⊎◌, ℕ, List, [], ◌∷◌, ◌++◌, length, get_or, slice_get, slice_index, Option, Some, None, MatchOption, Vec, inl, inr, refl, sym, ap, ◌∙◌, subst, arith}
-use Rattle.std.specs.List.{Contains, flat_map}
+use Rattle.std.specs.List.{Contains}
 use Rattle.std.specs.declared.alloc.Global.{Global}
 use Rattle.std.proofs.lemmas.List.{length_push}
 use Rattle.std.proofs.lemmas.List.Elements.{Contains-append_left, Contains-append_right, Contains-append_cases, Contains-get_or}
@@ -11,7 +11,7 @@ use Rattle.lr_tables.specs.declared.grammar.Grammar.{Grammar}
 use Rattle.sc_items.specs.Reach.{EdgesWithin}
 use Rattle.sc_items.specs.Kernel.{IsOpened, Opens}
 use Rattle.lr_tables.proofs.Determined.{goto_unique}
-use Rattle.lr_tables.proofs.Members.{cons_cases, cons_head, cons_tail, map_has, map_member, no_member}
+use Rattle.lr_tables.proofs.Members.{map_has, map_member, no_member}
 use Rattle.sc_items.specs.States.{HasItem}
 use Rattle.sc_items.proofs.Opening.{each-push, begun_within, after_within}
 use Rattle.sc_lalr.specs.Propagation.{AreNodes, IsNode, Passes, along, into, PassesTo, IsPropagation, along_part, numbers_at, into_part}
@@ -22,22 +22,6 @@ use Rattle.sc_lalr.proofs.Placing.{node_same, node_in, node_number, node_has, no
 contains_only : (x v : ℕ) → Contains (x ∷ []) v → x ≡ v
 contains_only x v (zero, a, b) = b
 contains_only x v (suc k, a, b) = absurd (omega (arith, a))
-
-pub flat_to : (f : ℕ → List ℕ) (v : ℕ) (us : List ℕ) → Contains (flat_map f us) v → (u : ℕ) × Contains us u × Contains (f u) v
-flat_to f v [] h = absurd (no_member v h)
-flat_to f v (u ∷ us) h = go (flat_to f v us) (Contains-append_cases (f u) (flat_map f us) v h)
-  where
-    go : (Contains (flat_map f us) v → (w : ℕ) × Contains us w × Contains (f w) v) → Contains (f u) v ⊎ Contains (flat_map f us) v → (w : ℕ) × Contains (u ∷ us) w × Contains (f w) v
-    go more (inl a) = (u, cons_head u us, a)
-    go more (inr a) = let m = more a in (m.0, cons_tail u m.0 us m.1, m.2)
-
-pub flat_from : (f : ℕ → List ℕ) (v w : ℕ) (us : List ℕ) → Contains us w → Contains (f w) v → Contains (flat_map f us) v
-flat_from f v w [] h k = absurd (no_member w h)
-flat_from f v w (u ∷ us) h k = go (λ a. flat_from f v w us a k) (cons_cases u w us h)
-  where
-    go : (Contains us w → Contains (flat_map f us) v) → (u ≡ w) ⊎ Contains us w → Contains (f u ++ flat_map f us) v
-    go more (inl e) = Contains-append_left (f u) (flat_map f us) v (subst (λ z. Contains (f z) v) (sym e) k)
-    go more (inr a) = Contains-append_right (f u) (flat_map f us) v (more a)
 
 -- ---- an item to which lookaheads are passed stands in its state
 pub passes_has : (g : Grammar) (states : List (List ℕ)) (s i r j : ℕ) → Passes g states s i r j → HasItem g states r j

@@ -1,5 +1,5 @@
 -- The productions that can be reduced, in rising order.
-use Rattle.std.proofs.Common.{◌≡◌, ◌<◌, ◌≤◌, ◌+◌, ℕ, Bool, true, cond, IsTrue, List, [], ◌∷◌, ◌++◌, length, get_or, slice_index, take, drop, count_by, option_and_then, None, All, refl, sym, ap, ◌∙◌, subst, arith}
+use Rattle.std.proofs.Common.{◌≡◌, ◌<◌, ◌≤◌, ◌+◌, ℕ, Bool, true, cond, List, [], ◌∷◌, ◌++◌, length, get_or, slice_index, take, drop, count_by, option_and_then, None, All, refl, sym, ap, ◌∙◌, subst, arith}
 use Rattle.std.specs.List.{Contains}
 use Rattle.std.specs.List.Sorted.{IsStrictlyIncreasing}
 use Rattle.std.proofs.lemmas.List.{get_or-map, take-append-drop, take-take}
@@ -10,9 +10,9 @@ use Rattle.lr_tables.specs.Grammar.{after, right_in, is_left, production_at, sym
 use Rattle.lr_tables.specs.declared.grammar.Grammar.{Grammar}
 use Rattle.lr_tables.specs.declared.grammar.Entry.{Entry}
 use Rattle.lr_tables.specs.declared.grammar.Entry.TheVariants.{Left, Right}
-use Rattle.sc_items.specs.Reach.{marked}
 use Rattle.lr_tables.proofs.Members.{slice_some}
 use Rattle.sc_items.proofs.Listing.{IsCollected, IsCollected-kept, IsCollected-left, IsCollected-none, rising-collected, rising-none}
+use Rattle.sc_lalr.specs.Marks.{HasMark}
 use Rattle.sc_lalr.specs.Tables.{AreEnds, IsAtEnd}
 
 -- ---- a later item has a later production
@@ -46,34 +46,34 @@ take_member : (xs : List ℕ) (k v : ℕ) → Contains (take k xs) v → Contain
 take_member xs k v h = subst (λ zs. Contains zs v) (take-append-drop k xs) (Contains-append_left (take k xs) (drop k xs) v h)
 
 -- ---- the productions of the first items
-abbrev pub MarkedWith : Grammar → List Bool → List ℕ → ℕ → ℕ → ℕ → Type 0
-MarkedWith g marks numbers base i p = IsTrue (marked marks (slice_index numbers (base + i))) × (production_at g i ≡ p)
+abbrev pub MarkedWith : Grammar → List ℕ → ℕ → List ℕ → ℕ → ℕ → ℕ → Type 0
+MarkedWith g words b numbers base i p = HasMark words b (slice_index numbers (base + i)) × (production_at g i ≡ p)
 
-pub record MarkedSoFar (g : Grammar) (marks : List Bool) (numbers : List ℕ) (base : ℕ) (items found : List ℕ) : Type 0 where
+pub record MarkedSoFar (g : Grammar) (words : List ℕ) (b : ℕ) (numbers : List ℕ) (base : ℕ) (items found : List ℕ) : Type 0 where
   pub rising : IsStrictlyIncreasing found
-  pub collected : IsCollected (MarkedWith g marks numbers base) items found
+  pub collected : IsCollected (MarkedWith g words b numbers base) items found
 
-pub MarkedSoFar-none : (g : Grammar) (marks : List Bool) (numbers : List ℕ) (base : ℕ) → MarkedSoFar g marks numbers base [] []
-MarkedSoFar-none g marks numbers base = record { rising = rising-none; collected = IsCollected-none (MarkedWith g marks numbers base) }
+pub MarkedSoFar-none : (g : Grammar) (words : List ℕ) (b : ℕ) (numbers : List ℕ) (base : ℕ) → MarkedSoFar g words b numbers base [] []
+MarkedSoFar-none g words b numbers base = record { rising = rising-none; collected = IsCollected-none (MarkedWith g words b numbers base) }
 
-pub MarkedSoFar-left : (g : Grammar) (marks : List Bool) (numbers : List ℕ) (base k : ℕ) (items found : List ℕ) → k < length items → MarkedSoFar g marks numbers base (take k items) found → (IsTrue (marked marks (slice_index numbers (base + get_or items k 0))) → ⊥) → MarkedSoFar g marks numbers base (take (k + 1) items) found
-MarkedSoFar-left g marks numbers base k items found k_in h not =
-    record { rising = h.rising; collected = IsCollected-left (MarkedWith g marks numbers base) items found k k_in h.collected (λ p r. not r.0) }
+pub MarkedSoFar-left : (g : Grammar) (words : List ℕ) (b : ℕ) (numbers : List ℕ) (base k : ℕ) (items found : List ℕ) → k < length items → MarkedSoFar g words b numbers base (take k items) found → (HasMark words b (slice_index numbers (base + get_or items k 0)) → ⊥) → MarkedSoFar g words b numbers base (take (k + 1) items) found
+MarkedSoFar-left g words b numbers base k items found k_in h not =
+    record { rising = h.rising; collected = IsCollected-left (MarkedWith g words b numbers base) items found k k_in h.collected (λ p r. not r.0) }
 
-pub MarkedSoFar-kept : (g : Grammar) (marks : List Bool) (numbers : List ℕ) (base k : ℕ) (items found : List ℕ) → IsStrictlyIncreasing items → All (λ i. i < length g.entries.now) items → All (IsAtEnd g) items → k < length items → MarkedSoFar g marks numbers base (take k items) found → IsTrue (marked marks (slice_index numbers (base + get_or items k 0))) → MarkedSoFar g marks numbers base (take (k + 1) items) (found ++ production_at g (get_or items k 0) ∷ [])
-MarkedSoFar-kept g marks numbers base k items found inc within ends k_in h is_marked = record {
-  rising = rising-collected (MarkedWith g marks numbers base) items found k (production_at g (get_or items k 0)) inc k_in h.collected h.rising below;
-  collected = IsCollected-kept (MarkedWith g marks numbers base) items found k (production_at g (get_or items k 0)) k_in h.collected (is_marked, refl) (λ p r. r.1);
+pub MarkedSoFar-kept : (g : Grammar) (words : List ℕ) (b : ℕ) (numbers : List ℕ) (base k : ℕ) (items found : List ℕ) → IsStrictlyIncreasing items → All (λ i. i < length g.entries.now) items → All (IsAtEnd g) items → k < length items → MarkedSoFar g words b numbers base (take k items) found → HasMark words b (slice_index numbers (base + get_or items k 0)) → MarkedSoFar g words b numbers base (take (k + 1) items) (found ++ production_at g (get_or items k 0) ∷ [])
+MarkedSoFar-kept g words b numbers base k items found inc within ends k_in h has_mark = record {
+  rising = rising-collected (MarkedWith g words b numbers base) items found k (production_at g (get_or items k 0)) inc k_in h.collected h.rising below;
+  collected = IsCollected-kept (MarkedWith g words b numbers base) items found k (production_at g (get_or items k 0)) k_in h.collected (has_mark, refl) (λ p r. r.1);
 }
   where
-    below : (i p : ℕ) → Contains (take k items) i → i < get_or items k 0 → MarkedWith g marks numbers base i p → p < production_at g (get_or items k 0)
+    below : (i p : ℕ) → Contains (take k items) i → i < get_or items k 0 → MarkedWith g words b numbers base i p → p < production_at g (get_or items k 0)
     below i p w lower r =
         let end = All-contains (IsAtEnd g) items i ends (take_member items k i w) in
         let less = production_less g i (get_or items k 0) end.none lower (within k 0 k_in) in
         omega (arith, less, r.1)
 
 -- the same, by the productions that were made of the items before
-pub MarkedSoFar-next : (g : Grammar) (marks : List Bool) (numbers : List ℕ) (base k : ℕ) (items produced found : List ℕ) → AreEnds g items produced → k < length items → MarkedSoFar g marks numbers base (take k items) found → IsTrue (marked marks (slice_index numbers (base + get_or items k 0))) → MarkedSoFar g marks numbers base (take (k + 1) items) (found ++ slice_index produced k ∷ [])
-MarkedSoFar-next g marks numbers base k items produced found ends k_in h is_marked =
+pub MarkedSoFar-next : (g : Grammar) (words : List ℕ) (b : ℕ) (numbers : List ℕ) (base k : ℕ) (items produced found : List ℕ) → AreEnds g items produced → k < length items → MarkedSoFar g words b numbers base (take k items) found → HasMark words b (slice_index numbers (base + get_or items k 0)) → MarkedSoFar g words b numbers base (take (k + 1) items) (found ++ slice_index produced k ∷ [])
+MarkedSoFar-next g words b numbers base k items produced found ends k_in h has_mark =
     let here : slice_index produced k ≡ production_at g (get_or items k 0) = ap (λ zs. slice_index zs k) ends.produced_are ∙ get_or-map (production_at g) items k 0 0 k_in in
-    rw here (MarkedSoFar-kept g marks numbers base k items found ends.rising ends.within ends.at_end k_in h is_marked)
+    rw here (MarkedSoFar-kept g words b numbers base k items found ends.rising ends.within ends.at_end k_in h has_mark)

@@ -1,4 +1,5 @@
 pub mod Building
 pub mod First
+pub mod Marks
 pub mod Propagation
 pub mod Tables

@@ -1,15 +1,15 @@
 -- Lookaheads as nodes of a graph. Item i of state s has the place s * n + i, where n is the number
 -- of the items. The nodes are the places whose items stand in the states, numbered from the least.
-use Rattle.std.specs.Prelude.{◌≡◌, ◌↔◌, ◌<◌, ◌≤◌, ◌+◌, ◌*◌, ◌/◌, ◌%◌, if◌then◌else◌, ℕ, Bool, IsTrue, List, [], ◌∷◌, length, slice_get, slice_index, map, Option, Some, None, Vec}
+use Rattle.std.specs.Prelude.{◌≡◌, ◌↔◌, ◌<◌, ◌≤◌, ◌+◌, ◌*◌, ◌/◌, ◌%◌, ℕ, List, [], ◌∷◌, length, slice_get, slice_index, map, Option, Some, None, Vec}
 use Rattle.std.specs.List.{Contains}
 use Rattle.std.specs.Option.{option_map_or}
 use Rattle.std.specs.declared.alloc.Global.{Global}
 use Rattle.lr_tables.specs.Grammar.{after, begun}
 use Rattle.lr_tables.specs.Tables.{IsGoto, First, Lookahead}
 use Rattle.lr_tables.specs.declared.grammar.Grammar.{Grammar}
-use Rattle.sc_items.specs.Reach.{marked}
 use Rattle.sc_items.specs.Kernel.{IsListOf}
 use Rattle.sc_items.specs.States.{HasItem}
+use Rattle.sc_lalr.specs.Marks.{HasMark}
 use Rattle.sc_lalr.specs.declared.nodes.Nodes.{Nodes}
 
 pub record IsPlace (n p s i : ℕ) : Type 0 where
@@ -105,12 +105,12 @@ pub record IsSpontaneous (g : Grammar) (states : List (List ℕ)) (nodes : Nodes
   pub by : ℕ
   pub seeded : SeededBy g states nodes t by v
 
--- the marks are, for each terminal, those of the nodes of which it is a lookahead
-pub record AreLookaheads (g : Grammar) (states : List (List ℕ)) (nodes : Nodes) (rows : List (Vec Bool Global)) : Type 0 where
-  pub long : length rows ≡ g.terminals
-  pub each : (t : ℕ) (row : Vec Bool Global) → slice_get rows t ≡ Some row → length row.items ≡ length nodes.places.items
-  pub exact : (t : ℕ) (row : Vec Bool Global) → slice_get rows t ≡ Some row → (u s i : ℕ) → IsNode (length g.entries.now) nodes u s i
-      → IsTrue (marked row.items u) ↔ Lookahead g states t s i
+-- the words are, for each 64 terminals, the marks of the nodes of which they are lookaheads
+pub record AreLookaheads (g : Grammar) (states : List (List ℕ)) (nodes : Nodes) (rows : List (Vec ℕ Global)) : Type 0 where
+  pub long : length rows ≡ g.terminals / 64 + 1
+  pub each : (k : ℕ) (row : Vec ℕ Global) → slice_get rows k ≡ Some row → length row.items ≡ length nodes.places.items
+  pub exact : (k : ℕ) (row : Vec ℕ Global) → slice_get rows k ≡ Some row → (b u s i : ℕ) → b < 64 → k * 64 + b < g.terminals
+      → IsNode (length g.entries.now) nodes u s i → HasMark row.items b u ↔ Lookahead g states (k * 64 + b) s i
 
 -- the row of an item
 abbrev pub row_at : List (Vec ℕ Global) → ℕ → List ℕ
@@ -124,11 +124,21 @@ behind_of g p = after g (p % length g.entries.now + 1)
 abbrev pub opened_part : Grammar → List ℕ → List (Vec ℕ Global) → ℕ → List ℕ
 opened_part g numbers opened p = numbers_at numbers (p / length g.entries.now * length g.entries.now) (row_at opened (p % length g.entries.now))
 
--- the same, where a text that may follow there begins with the terminal of these marks
-abbrev pub seed_part : Grammar → List ℕ → List (Vec ℕ Global) → List Bool → ℕ → List ℕ
-seed_part g numbers opened begin p = option_map_or (λ y. if marked begin y then opened_part g numbers opened p else []) (behind_of g p) []
+-- an item with a place among these opens the node, and the symbol behind has the mark
+pub record Seeds (g : Grammar) (nodes : Nodes) (opened : List (Vec ℕ Global)) (first places : List ℕ) (b v : ℕ) : Type 0 where
+  pub place : ℕ
+  pub within : Contains places place
+  pub next : ℕ
+  pub next_is : behind_of g place ≡ Some next
+  pub has : HasMark first b next
+  pub opens : Contains (opened_part g nodes.numbers.items opened place) v
 
 -- each item of the place's state has a number
 pub record PlaceFits (n count p : ℕ) : Type 0 where
   pub positive : 0 < n
   pub fits : p / n * n + n ≤ count
+
+-- the same, and what the item with the place opens are nodes
+pub record SeedFits (g : Grammar) (nodes : Nodes) (opened : List (Vec ℕ Global)) (p : ℕ) : Type 0 where
+  pub place : PlaceFits (length g.entries.now) (length nodes.numbers.items) p
+  pub within : (v : ℕ) → Contains (opened_part g nodes.numbers.items opened p) v → v < length nodes.places.items

@@ -1,5 +1,5 @@
 -- The tables as the code keeps them.
-use Rattle.std.specs.Prelude.{◌≡◌, ◌<◌, ◌+◌, All, length, ℕ, Bool, IsTrue, List, [], ◌∷◌, slice_get, slice_index, map, Option, Some, None, option_and_then, Vec}
+use Rattle.std.specs.Prelude.{◌≡◌, ◌<◌, ◌+◌, All, length, ℕ, List, [], ◌∷◌, slice_get, slice_index, map, Option, Some, None, option_and_then, Vec}
 use Rattle.std.specs.List.{Contains}
 use Rattle.std.specs.List.Sorted.{IsStrictlyIncreasing}
 use Rattle.std.specs.declared.alloc.Global.{Global}
@@ -9,8 +9,8 @@ use Rattle.lr_tables.specs.declared.grammar.Grammar.{Grammar}
 use Rattle.lr_tables.specs.declared.grammar.Action.{Action}
 use Rattle.lr_tables.specs.declared.grammar.Action.TheVariants.{Shift, Reduce}
 use Rattle.lr_tables.specs.declared.grammar.Conflict.{Conflict}
-use Rattle.sc_items.specs.Reach.{marked}
 use Rattle.sc_items.specs.States.{HasItem}
+use Rattle.sc_lalr.specs.Marks.{HasMark}
 use Rattle.sc_lalr.specs.declared.tables.Tables.{Tables}
 
 -- the entry of a row, where there is one
@@ -40,11 +40,11 @@ pub record EndsIn (g : Grammar) (states : List (List ℕ)) (s i : ℕ) : Type 0 
   pub has : HasItem g states s i
   pub at_end : after g i ≡ None
 
--- the node of one of the items is marked, and the item ends this production
-pub record IsMarkedEnd (g : Grammar) (marks : List Bool) (numbers : List ℕ) (base : ℕ) (items : List ℕ) (p : ℕ) : Type 0 where
+-- the node of one of the items has the mark, and the item ends this production
+pub record IsMarkedEnd (g : Grammar) (words : List ℕ) (b : ℕ) (numbers : List ℕ) (base : ℕ) (items : List ℕ) (p : ℕ) : Type 0 where
   pub item : ℕ
   pub within : Contains items item
-  pub is_marked : IsTrue (marked marks (slice_index numbers (base + item)))
+  pub has_mark : HasMark words b (slice_index numbers (base + item))
   pub production : production_at g item ≡ p
 
 -- the action that is kept, of a shift and of reductions by rising productions

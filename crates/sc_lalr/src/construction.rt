@@ -55,7 +55,7 @@ fn action_row(
     grammar: &Grammar,
     states: &States,
     nodes: &Nodes,
-    ahead: &[Vec<bool>],
+    ahead: &[Vec<u64>],
     state: usize,
     conflicts: &mut Vec<Conflict>,
 ) -> Result<Vec<Option<Action>>, OutOfMemory>
@@ -76,7 +76,8 @@ fn action_row(
             alloc,
             &ends,
             &produced,
-            &ahead[terminal],
+            &ahead[terminal / 64],
+            terminal % 64,
             &nodes.numbers,
             state * grammar.entries.len(),
         )?;

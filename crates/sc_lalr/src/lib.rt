@@ -8,6 +8,7 @@ mod lookahead;
 mod nodes;
 mod propagation;
 mod reduction;
+mod spread;
 mod tables;
 
 pub use construction::build;

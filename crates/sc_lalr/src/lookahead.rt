@@ -1,26 +1,27 @@
 //! Lookaheads.
-ghost use Rattle.std.specs.Prelude.{◌≡◌, ◌<◌, ◌↔◌, ◌+◌, ◌%◌, ◌++◌, ℕ, List, length, map, IfOk, OnOk, All, IsTrue};
-ghost use Rattle.std.specs.List.{flat_map};
+ghost use Rattle.std.specs.Prelude.{◌≡◌, ◌<◌, ◌↔◌, ◌+◌, ◌%◌, ℕ, List, length, map, IfOk, All, IsTrue};
 ghost use Rattle.lr_tables.specs.Grammar.{IsGrammar};
 ghost use Rattle.sc_items.specs.Kernel.{IsOpened};
 ghost use Rattle.sc_items.specs.States.{AreStates, kernels_of};
-ghost use Rattle.sc_lalr.specs.Propagation.{AreNodes, HavePlaces, AreSources, AreLookaheads, IsFollowed, PlaceFits, behind_of, opened_part, seed_part};
+ghost use Rattle.sc_lalr.specs.Propagation.{AreNodes, HavePlaces, AreSources, AreLookaheads, IsFollowed, SeedFits, Seeds, behind_of, opened_part};
+ghost use Rattle.sc_lalr.specs.Marks.{HasMark, IsGiven};
 
 use crate::first::{beginners, leading};
 use crate::nodes::Nodes;
-use crate::propagation::{numbered, propagation};
+use crate::propagation::propagation;
+use crate::spread::spread;
 use lr_tables::Grammar;
 use sc_base::OutOfMemory;
-use sc_items::{States, after, opened, reachable};
+use sc_items::{States, after, opened};
 use std::alloc::Global;
 
-/// For each terminal the nodes of which it is a lookahead, as marks.
+/// For each 64 terminals the marks of the nodes of which they are lookaheads.
 pub fn lookaheads(
     alloc: Global,
     grammar: &Grammar,
     states: &States,
     nodes: &Nodes,
-) -> Result<Vec<Vec<bool>>, OutOfMemory>
+) -> Result<Vec<Vec<u64>>, OutOfMemory>
     requires grammar { IsGrammar grammar.now }
     requires states { AreStates grammar.now states.now }
     requires nodes { AreNodes grammar.now (kernels_of states.now) nodes.now }
@@ -32,18 +33,11 @@ pub fn lookaheads(
     let behind = behind(alloc, grammar, &sources)?;
     let edges = propagation(alloc, grammar, states, nodes, &opened)?;
     let mut rows = Vec::new(alloc);
-    for terminal in 0..grammar.terminals {
-        let begin = beginners(alloc, &leading, terminal)?;
-        let starts = spontaneous(
-            alloc,
-            grammar,
-            &nodes.numbers,
-            &opened,
-            &sources,
-            &behind,
-            &begin,
-        )?;
-        rows.push(reachable(alloc, &edges, &starts)?)?;
+    for block in 0..grammar.terminals / 64 + 1 {
+        let first = beginners(alloc, &leading, block * 64)?;
+        let mut words = spontaneous(alloc, grammar, nodes, &opened, &sources, &behind, &first)?;
+        spread(alloc, &edges, &mut words)?;
+        rows.push(words)?;
     }
     Ok(rows)
 }
@@ -92,50 +86,52 @@ fn is_followed(grammar: &Grammar, item: usize) -> bool
     after(grammar, item + 1).is_some()
 }
 
-/// The nodes that get a terminal from the symbol behind the symbol after a dot. It is given by the
-/// symbols from which a text can be derived that begins with it.
+/// The marks that the nodes get from the symbols behind the symbols after the dots, by the first
+/// terminals of what can be derived from these.
 fn spontaneous(
     alloc: Global,
     grammar: &Grammar,
-    numbers: &[usize],
+    nodes: &Nodes,
     opened: &[Vec<usize>],
     sources: &[usize],
     behind: &[Option<usize>],
-    begin: &[bool],
-) -> Result<Vec<usize>, OutOfMemory>
+    first: &[u64],
+) -> Result<Vec<u64>, OutOfMemory>
     requires grammar { IsGrammar grammar.now }
     requires opened { IsOpened grammar.now opened.now }
-    requires fits { All (PlaceFits (length grammar.now.entries.now) (length numbers.now)) sources.now }
+    requires fits { All (SeedFits grammar.now nodes.now opened.now) sources.now }
     requires behind { behind.now ≡ map (behind_of grammar.now) sources.now }
-    requires begin { length begin.now ≡ grammar.now.terminals + grammar.now.nonterminals }
-    ensures { IfOk result (λ nodes. nodes.items ≡ flat_map (seed_part grammar.now numbers.now opened.now begin.now) sources.now) }
+    requires first { length first.now ≡ grammar.now.terminals + grammar.now.nonterminals }
+    ensures len { IfOk result (λ words. length words.items ≡ length nodes.now.places.items) }
+    ensures seeds { IfOk result (λ words. (b v : ℕ) → HasMark words.items b v ↔ Seeds grammar.now nodes.now opened.now first.now sources.now b v) }
 {
-    let mut nodes = Vec::new(alloc);
+    let mut words = vec![in alloc; 0; nodes.places.len()]?;
     for (index, source) in sources.iter().enumerate() {
         match behind[index] {
             None => {}
-            Some(next) => {
-                if begin[next] {
-                    seeded(&mut nodes, grammar, numbers, opened, *source)?;
-                }
-            }
+            Some(next) => seed(&mut words, grammar, nodes, opened, *source, first[next]),
         }
     }
-    Ok(nodes)
+    Ok(words)
 }
 
-/// Adds what the item with this place opens.
-fn seeded(
-    nodes: &mut Vec<usize>,
+/// Gives the marks of the word to what the item with this place opens.
+fn seed(
+    words: &mut Vec<u64>,
     grammar: &Grammar,
-    numbers: &[usize],
+    nodes: &Nodes,
     opened: &[Vec<usize>],
     source: usize,
-) -> Result<(), OutOfMemory>
+    word: u64,
+)
     requires opened { IsOpened grammar.now opened.now }
-    requires fits { PlaceFits (length grammar.now.entries.now) (length numbers.now) source }
-    ensures { OnOk result (nodes.new.items ≡ nodes.old.items ++ opened_part grammar.now numbers.now opened.now source) }
+    requires fits { SeedFits grammar.now nodes.now opened.now source }
+    requires len { length words.old.items ≡ length nodes.now.places.items }
+    ensures { IsGiven words.old.items words.new.items (opened_part grammar.now nodes.now.numbers.items opened.now source) word }
 {
     let n = grammar.entries.len();
-    numbered(nodes, numbers, (source / n) * n, &opened[source % n])
+    let base = source / n * n;
+    for item in &opened[source % n] {
+        words[nodes.numbers[base + *item]] |= word;
+    }
 }

@@ -52,25 +52,27 @@ pub fn produced(
     Ok(produced)
 }
 
-/// The productions of the marked ones of these items, of which the productions are given.
+/// The productions of those of these items that have the mark. All their productions are given.
 pub fn productions(
     alloc: Global,
     items: &[usize],
     produced: &[usize],
-    marks: &[bool],
+    words: &[u64],
+    mark: usize,
     numbers: &[usize],
     base: usize,
 ) -> Result<Vec<usize>, OutOfMemory>
     requires produced { length produced.now ≡ length items.now }
     requires numbers { All (λ item. base + item < length numbers.now) items.now }
-    requires marks { All (λ item. slice_index numbers.now (base + item) < length marks.now) items.now }
+    requires words { All (λ item. slice_index numbers.now (base + item) < length words.now) items.now }
+    requires mark { mark < 64 }
     ensures rising { IfOk result (λ found. (g : Grammar) → AreEnds g items.now produced.now → IsStrictlyIncreasing found.items) }
     ensures exact { IfOk result (λ found. (g : Grammar) → AreEnds g items.now produced.now
-        → (p : ℕ) → Contains found.items p ↔ IsMarkedEnd g marks.now numbers.now base items.now p) }
+        → (p : ℕ) → Contains found.items p ↔ IsMarkedEnd g words.now mark numbers.now base items.now p) }
 {
     let mut found = Vec::new(alloc);
     for (index, item) in items.iter().enumerate() {
-        if marks[numbers[base + *item]] {
+        if words[numbers[base + *item]] >> mark & 1 == 1 {
             found.push(produced[index])?;
         }
     }

@@ -1,9 +1,10 @@
-use Rattle.std.proofs.Common.{map, sym, ◌≡◌, ◌<◌, ◌+◌, ◌*◌, ◌↔◌, ◌++◌, ◌∷◌, [], ℕ, Bool, List, Vec, Some, slice_get, slice_index, length, get_or, ap, ◌∙◌, refl, arith, subst}
+use Rattle.std.proofs.Common.{map, sym, ◌≡◌, ◌<◌, ◌+◌, ◌*◌, ◌/◌, ◌%◌, ◌↔◌, ◌++◌, ◌∷◌, [], ℕ, List, Vec, Some, slice_get, slice_index, length, get_or, ap, ◌∙◌, refl, arith, subst}
 use Rattle.std.specs.List.{Contains}
 use Rattle.std.specs.declared.alloc.Global.{Global}
 use Rattle.std.proofs.lemmas.List.Elements.{Contains-get_or}
 use Rattle.std.proofs.lemmas.List.{length-map}
 use Rattle.std.proofs.lemmas.Option.{slice_get_read}
+use Rattle.std.proofs.lemmas.Nat.{div-add-mod', mod_below}
 use Rattle.lr_tables.specs.Grammar.{production_at}
 use Rattle.lr_tables.specs.Tables.{CanReduce}
 use Rattle.lr_tables.specs.declared.grammar.Grammar.{Grammar}
@@ -20,15 +21,16 @@ use Rattle.sc_lalr.proofs.construction.action_row.Goals as goal
 end_below : (g : Grammar) (states : List (List ℕ)) (s : ℕ) (ends view : List ℕ) (k d : ℕ) → view ≡ ends → k < length view → IsListOf (length g.entries.now) (EndsIn g states s) ends → Contains ends (get_or view k d)
 end_below g states s ends view k d e h list = subst (λ zs. Contains zs (get_or view k d)) e (Contains-get_or view k d h)
 
--- the row of a terminal
-row_of : (rows : List (Vec Bool Global)) (t n : ℕ) (row : Vec Bool Global) → length rows ≡ n → t < n → row ≡ get_or rows t row → slice_get rows t ≡ Some row
-row_of rows t n row long h e = slice_get_read rows (length rows) t row refl (omega arith) e
+-- the words of a terminal
+row_of : (rows : List (Vec ℕ Global)) (t n : ℕ) (row : Vec ℕ Global) → length rows ≡ n / 64 + 1 → t < n → row ≡ get_or rows (t / 64) row → slice_get rows (t / 64) ≡ Some row
+row_of rows t n row long h e = slice_get_read rows (length rows) (t / 64) row refl (omega arith) e
 
-reduce_is : (g : Grammar) (states : List (List ℕ)) (nodes : Nodes) (numbers_view : List ℕ) (s t : ℕ) (rows : List (Vec Bool Global)) (row : Vec Bool Global) (ends ends_view found : List ℕ) (marks_view : List Bool) → AreNodes g states nodes → numbers_view ≡ nodes.numbers.items → AreLookaheads g states nodes rows → slice_get rows t ≡ Some row → ends_view ≡ ends → marks_view ≡ row.items → IsListOf (length g.entries.now) (EndsIn g states s) ends → ((p : ℕ) → Contains found p ↔ IsMarkedEnd g marks_view numbers_view (s * length g.entries.now) ends_view p) → (p : ℕ) → Contains found p ↔ CanReduce g states s t p
-reduce_is g states nodes numbers_view s t rows row ends ends_view found marks_view are d ahead at e f list exact p =
-    let can = can_reduce g states nodes s t rows row ends are ahead at list p in
-    let here : Contains found p ↔ IsMarkedEnd g row.items nodes.numbers.items (s * length g.entries.now) ends p = subst (λ ns. Contains found p ↔ IsMarkedEnd g row.items ns (s * length g.entries.now) ends p) d (subst (λ zs. Contains found p ↔ IsMarkedEnd g zs numbers_view (s * length g.entries.now) ends p) f (subst (λ zs. Contains found p ↔ IsMarkedEnd g marks_view numbers_view (s * length g.entries.now) zs p) e (exact p))) in
-    (λ w. can.0 (here.0 w), λ r. here.1 (can.1 r))
+reduce_is : (g : Grammar) (states : List (List ℕ)) (nodes : Nodes) (numbers_view : List ℕ) (s t : ℕ) (rows : List (Vec ℕ Global)) (row : Vec ℕ Global) (ends ends_view found words_view : List ℕ) → AreNodes g states nodes → numbers_view ≡ nodes.numbers.items → AreLookaheads g states nodes rows → t < g.terminals → slice_get rows (t / 64) ≡ Some row → ends_view ≡ ends → words_view ≡ row.items → IsListOf (length g.entries.now) (EndsIn g states s) ends → ((p : ℕ) → Contains found p ↔ IsMarkedEnd g words_view (t % 64) numbers_view (s * length g.entries.now) ends_view p) → (p : ℕ) → Contains found p ↔ CanReduce g states s t p
+reduce_is g states nodes numbers_view s t rows row ends ends_view found words_view are d ahead t_in at e f list exact p =
+    let same : t / 64 * 64 + t % 64 ≡ t = div-add-mod' t 64 in
+    let can = can_reduce g states nodes s (t / 64) (t % 64) rows row ends are ahead at (mod_below t 64 (omega arith)) (rw same t_in) list p in
+    let here : Contains found p ↔ IsMarkedEnd g row.items (t % 64) nodes.numbers.items (s * length g.entries.now) ends p = subst (λ ns. Contains found p ↔ IsMarkedEnd g row.items (t % 64) ns (s * length g.entries.now) ends p) d (subst (λ zs. Contains found p ↔ IsMarkedEnd g zs (t % 64) numbers_view (s * length g.entries.now) ends p) f (subst (λ zs. Contains found p ↔ IsMarkedEnd g words_view (t % 64) numbers_view (s * length g.entries.now) zs p) e (exact p))) in
+    (λ w. subst (λ x. CanReduce g states s x p) same (can.0 (here.0 w)), λ r. here.1 (can.1 (subst (λ x. CanReduce g states s x p) (sym same) r)))
 
 pub loop-terminal-init : goal.loop-terminal-init
 loop-terminal-init c = rw c.new-row.ensures.items (RowSoFar-begin c.args.grammar.now (kernels_of c.args.states.now) c.args.state c.args.conflicts.now.items c.requires.conflicts)
@@ -55,19 +57,19 @@ numbers_fit g states nodes s ends view numbers are s_in list e f k d h =
 pub productions-requires-clause-numbers : goal.productions-requires-clause-numbers
 productions-requires-clause-numbers c = numbers_fit c.args.grammar.now (kernels_of c.args.states.now) c.args.nodes.now c.args.state c.in_ok-ends.ends.items c.deref-in-loop-terminal.result.now c.deref-in-loop-terminal-4.result.now c.requires.nodes c.requires.state c.in_ok-ends.ensures c.deref-in-loop-terminal.ensures.value c.deref-in-loop-terminal-4.ensures.value
 
-marks_fit : (g : Grammar) (states : List (List ℕ)) (nodes : Nodes) (s t : ℕ) (rows : List (Vec Bool Global)) (row : Vec Bool Global) (ends view numbers : List ℕ) (marks : List Bool) → AreNodes g states nodes → AreLookaheads g states nodes rows → slice_get rows t ≡ Some row → IsListOf (length g.entries.now) (EndsIn g states s) ends → view ≡ ends → numbers ≡ nodes.numbers.items → marks ≡ row.items → (k d : ℕ) → k < length view → slice_index numbers (s * length g.entries.now + get_or view k d) < length marks
-marks_fit g states nodes s t rows row ends view numbers marks are ahead at list e f m k d h =
+words_fit : (g : Grammar) (states : List (List ℕ)) (nodes : Nodes) (s t : ℕ) (rows : List (Vec ℕ Global)) (row : Vec ℕ Global) (ends view numbers words : List ℕ) → AreNodes g states nodes → AreLookaheads g states nodes rows → slice_get rows t ≡ Some row → IsListOf (length g.entries.now) (EndsIn g states s) ends → view ≡ ends → numbers ≡ nodes.numbers.items → words ≡ row.items → (k d : ℕ) → k < length view → slice_index numbers (s * length g.entries.now + get_or view k d) < length words
+words_fit g states nodes s t rows row ends view numbers words are ahead at list e f m k d h =
     let i = get_or view k d in
     let there = end_below g states s ends view k d e h list in
     let node = node_of g states nodes are s i (list.sound i there).has (list.below i there) in
-    let within : slice_index nodes.numbers.items (s * length g.entries.now + i) < length marks = omega (arith, node_in (length g.entries.now) nodes (slice_index nodes.numbers.items (s * length g.entries.now + i)) s i node, ahead.each t row at, ap length m) in
+    let within : slice_index nodes.numbers.items (s * length g.entries.now + i) < length words = omega (arith, node_in (length g.entries.now) nodes (slice_index nodes.numbers.items (s * length g.entries.now + i)) s i node, ahead.each t row at, ap length m) in
     rw f within
 
-pub productions-requires-clause-marks : goal.productions-requires-clause-marks
-productions-requires-clause-marks c =
+pub productions-requires-clause-words : goal.productions-requires-clause-words
+productions-requires-clause-words c =
     let g = c.args.grammar.now in
     let at = row_of c.args.ahead.now c.loop-terminal.terminal g.terminals c.index-ahead-terminal.result c.requires.ahead.long c.loop-terminal-test.true c.index-ahead-terminal.is in
-    marks_fit g (kernels_of c.args.states.now) c.args.nodes.now c.args.state c.loop-terminal.terminal c.args.ahead.now c.index-ahead-terminal.result c.in_ok-ends.ends.items c.deref-in-loop-terminal.result.now c.deref-in-loop-terminal-4.result.now c.deref-in-loop-terminal-3.result.now c.requires.nodes c.requires.ahead at c.in_ok-ends.ensures c.deref-in-loop-terminal.ensures.value c.deref-in-loop-terminal-4.ensures.value c.deref-in-loop-terminal-3.ensures.value
+    words_fit g (kernels_of c.args.states.now) c.args.nodes.now c.args.state (c.loop-terminal.terminal / 64) c.args.ahead.now c.index-ahead-terminal.result c.in_ok-ends.ends.items c.deref-in-loop-terminal.result.now c.deref-in-loop-terminal-4.result.now c.deref-in-loop-terminal-3.result.now c.requires.nodes c.requires.ahead at c.in_ok-ends.ensures c.deref-in-loop-terminal.ensures.value c.deref-in-loop-terminal-4.ensures.value c.deref-in-loop-terminal-3.ensures.value
 
 pub loop-terminal-preserved : goal.loop-terminal-preserved
 loop-terminal-preserved c =
@@ -79,7 +81,7 @@ loop-terminal-preserved c =
     let found = c.in_ok-found.found.items in
     let at = row_of c.args.ahead.now t g.terminals c.index-ahead-terminal.result c.requires.ahead.long c.loop-terminal-test.true c.index-ahead-terminal.is in
     let ends = ends_are g states s c.in_ok-ends.ends.items c.deref.result.now c.deref-in-loop-terminal.result.now c.in_ok-produced.produced.items c.deref-in-loop-terminal-2.result.now c.in_ok-ends.ensures c.deref.ensures.value c.deref-in-loop-terminal.ensures.value c.deref-in-loop-terminal-2.ensures.value c.in_ok-produced.ensures in
-    let can = reduce_is g states c.args.nodes.now c.deref-in-loop-terminal-4.result.now s t c.args.ahead.now c.index-ahead-terminal.result c.in_ok-ends.ends.items c.deref-in-loop-terminal.result.now found c.deref-in-loop-terminal-3.result.now c.requires.nodes c.deref-in-loop-terminal-4.ensures.value c.requires.ahead at c.deref-in-loop-terminal.ensures.value c.deref-in-loop-terminal-3.ensures.value c.in_ok-ends.ensures (c.in_ok-found.ensures.exact g ends) in
+    let can = reduce_is g states c.args.nodes.now c.deref-in-loop-terminal-4.result.now s t c.args.ahead.now c.index-ahead-terminal.result c.in_ok-ends.ends.items c.deref-in-loop-terminal.result.now found c.deref-in-loop-terminal-3.result.now c.requires.nodes c.deref-in-loop-terminal-4.ensures.value c.requires.ahead c.loop-terminal-test.true at c.deref-in-loop-terminal.ensures.value c.deref-in-loop-terminal-3.ensures.value c.in_ok-ends.ensures (c.in_ok-found.ensures.exact g ends) in
     let next = RowSoFar-step g states s t c.loop-terminal.row.items c.loop-terminal.conflicts.items shift found c.requires.states.exact c.requires.state c.loop-terminal-test.true (c.goto-shift.ensures.exact g c.requires.grammar c.requires.states) (c.in_ok-found.ensures.rising g ends) can c.loop-terminal.invariant in
     let row_is : c.push.new.self.items ≡ c.loop-terminal.row.items ++ kept_of shift found ∷ [] = c.in_ok-push.ensures.items ∙ ap (λ a. c.loop-terminal.row.items ++ a ∷ []) (c.kept.ensures ∙ ap (kept_of shift) c.deref-in-loop-terminal-5.ensures.value) in
     let conflicts_is : c.note_conflicts.new.conflicts.items ≡ c.loop-terminal.conflicts.items ++ conflicts_at s t shift found = c.in_ok-note_conflicts.ensures ∙ ap (λ zs. c.loop-terminal.conflicts.items ++ conflicts_at s t shift zs) c.deref-in-loop-terminal-6.ensures.value in

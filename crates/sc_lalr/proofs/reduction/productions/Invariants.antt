@@ -5,4 +5,4 @@ use Rattle.sc_lalr.proofs.Reducing.{MarkedSoFar}
 use Rattle.sc_lalr.proofs.reduction.productions.Given as goal
 
 abbrev pub invariant-loop-index : goal.invariant-loop-index
-invariant-loop-index l = (g : Grammar) → AreEnds g l.items l.produced → MarkedSoFar g l.marks l.numbers l.base (take l.index l.items) l.found.items
+invariant-loop-index l = (g : Grammar) → AreEnds g l.items l.produced → MarkedSoFar g l.words l.mark l.numbers l.base (take l.index l.items) l.found.items
