@@ -15,9 +15,10 @@ use Rattle.lr_tables.specs.declared.grammar.Symbol.TheVariants.{Terminal, Nonter
 use Rattle.sc_model.specs.Growth.{Extends}
 use Rattle.sc_base.proofs.Growth.{Extends-keeps, Extends-push, Extends-refl, Extends-trans, push_cases}
 use Rattle.sc_items.specs.Reach.{marked, Reaches, start, step, IsReached}
-use Rattle.sc_items.specs.Kernel.{MovedIn, IsListOf, IsOpened}
+use Rattle.sc_items.specs.Kernel.{MovedIn, IsListOf, IsMoved, IsOpened}
 use Rattle.sc_items.specs.Found.{Found, IsGotoRow, IsStep, nothing, follows}
 use Rattle.sc_items.proofs.Finding.{Found-new, Found-old, Found-skip}
+use Rattle.lr_tables.proofs.Members.{no_member}
 use Rattle.sc_items.proofs.Opening.{after_within}
 
 -- ---- the symbols of a grammar are in range
@@ -120,10 +121,10 @@ Explored-begin g old s kernel f at = record {
   row_is = record { long = refl; some = λ y t w. absurd (none-some (Some t) w); none = λ y w. absurd (none-some None w) };
 }
 
-pub Explored-step : (g : Grammar) (old now new : List (List ℕ)) (s x : ℕ) (row : List (Option ℕ)) (kernel items : List ℕ) (to : Option ℕ) → slice_get old s ≡ Some kernel → AreMembers g kernel items → ((i : ℕ) → Contains items i → i < length g.entries.now) → Explored g old now s x row → IsStep g items x now new to → Explored g old new s (x + 1) (row ++ to ∷ [])
-Explored-step g old now new s x row kernel items to at members within h (nothing e none) =
+pub Explored-step : (g : Grammar) (old now new : List (List ℕ)) (s x : ℕ) (row : List (Option ℕ)) (kernel items k : List ℕ) (to : Option ℕ) → slice_get old s ≡ Some kernel → AreMembers g kernel items → Explored g old now s x row → IsMoved g items x k → IsStep k now new to → Explored g old new s (x + 1) (row ++ to ∷ [])
+Explored-step g old now new s x row kernel items k to at members h is (nothing e none) =
     let kernel_is : h.kernel ≡ kernel = same_Some h.kernel kernel (sym h.kernel_at ∙ at) in
-    let empty : (m : ℕ) → Moved g kernel x m → ⊥ = λ m w. none m (moved_to g kernel items x m members w) in
+    let empty : (m : ℕ) → Moved g kernel x m → ⊥ = λ m w. no_member m (subst (λ zs. Contains zs m) none ((is.moved m).1 (moved_to g kernel items x m members w))) in
     subst (λ states. Explored g old states s (x + 1) (row ++ None ∷ [])) (sym e) (record {
       found = Found-skip g now s x kernel h.found (Extends-keeps s kernel at h.keeps) empty;
       keeps = h.keeps;
@@ -131,13 +132,13 @@ Explored-step g old now new s x row kernel items to at members within h (nothing
       kernel_at = at;
       row_is = row_none g now s x kernel row (subst (λ zs. IsGotoRow g now s zs row x) kernel_is h.row_is) empty;
     })
-Explored-step g old now new s x row kernel items to at members within h (follows k t inc some moved n) = go n.grown
+Explored-step g old now new s x row kernel items k to at members h is (follows t some n) = go n.grown
   where
     now_at : slice_get now s ≡ Some kernel
     now_at = Extends-keeps s kernel at h.keeps
 
     k_moved : (m : ℕ) → Contains k m ↔ Moved g kernel x m
-    k_moved m = (λ w. moved_from g kernel items x m members ((moved m).0 w), λ w. (moved m).1 (moved_to g kernel items x m members w))
+    k_moved m = (λ w. moved_from g kernel items x m members ((is.moved m).0 w), λ w. (is.moved m).1 (moved_to g kernel items x m members w))
 
     goto_in : (states : List (List ℕ)) → slice_get states s ≡ Some kernel → slice_get states t ≡ Some k → IsGoto g states s x t
     goto_in states source_at target_at = record { source = kernel; target = k; source_at = source_at; target_at = target_at; some = some; moved = k_moved }
@@ -146,7 +147,7 @@ Explored-step g old now new s x row kernel items to at members within h (follows
     row_now = subst (λ zs. IsGotoRow g now s zs row x) (same_Some h.kernel kernel (sym h.kernel_at ∙ at)) h.row_is
 
     k_within : (i : ℕ) → Contains k i → i < length g.entries.now
-    k_within i w = let o = (moved i).0 w in omega (arith, o.to, after_within g o.from x o.over)
+    k_within i w = let o = (is.moved i).0 w in omega (arith, o.to, after_within g o.from x o.over)
 
     go : (new ≡ now) ⊎ ((new ≡ now ++ k ∷ []) × (t ≡ length now) × ((u : ℕ) → slice_get now u ≡ Some k → ⊥)) → Explored g old new s (x + 1) (row ++ Some t ∷ [])
     go (inl e) =
@@ -163,7 +164,7 @@ Explored-step g old now new s x row kernel items to at members within h (follows
         let grown : Extends now (now ++ k ∷ []) = Extends-push now k in
         let there : slice_get (now ++ k ∷ []) t ≡ Some k = subst (λ states. slice_get states t ≡ Some k) e.0 n.at in
         subst (λ states. Explored g old states s (x + 1) (row ++ Some t ∷ [])) (sym e.0) (record {
-          found = Found-new g now k s x kernel h.found now_at inc k_within some k_moved e.2;
+          found = Found-new g now k s x kernel h.found now_at is.rising k_within some k_moved e.2;
           keeps = Extends-trans h.keeps grown;
           kernel = kernel;
           kernel_at = at;

@@ -4,6 +4,5 @@ pub mod Opening
 pub mod Numbering
 pub mod Finding
 pub mod Exploring
-pub mod Following
 pub mod Searching
 pub mod Reading

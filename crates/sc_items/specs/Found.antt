@@ -1,12 +1,12 @@
 -- The states that a search has found so far.
-use Rattle.std.specs.Prelude.{◌≡◌, ◌↔◌, ◌<◌, ℕ, List, length, slice_get, Option, Some, None}
+use Rattle.std.specs.Prelude.{◌≡◌, ◌↔◌, ◌<◌, ℕ, List, [], length, slice_get, Option, Some, None}
 use Rattle.std.specs.List.{Contains}
 use Rattle.std.specs.List.Sorted.{IsStrictlyIncreasing}
 use Rattle.sc_model.specs.Growth.{IsOneToOne}
 use Rattle.lr_tables.specs.Grammar.{IsStart}
 use Rattle.lr_tables.specs.Tables.{Moved, IsGoto, IsLeastPair, Before}
 use Rattle.lr_tables.specs.declared.grammar.Grammar.{Grammar}
-use Rattle.sc_items.specs.Kernel.{MovedIn, IsNumbered}
+use Rattle.sc_items.specs.Kernel.{IsNumbered}
 
 -- the least pair of a state is before this pair
 pub record FoundAt (g : Grammar) (states : List (List ℕ)) (t s x : ℕ) : Type 0 where
@@ -33,8 +33,7 @@ pub record IsGotoRow (g : Grammar) (states : List (List ℕ)) (s : ℕ) (kernel 
   pub some : (y t : ℕ) → slice_get row y ≡ Some (Some t) → IsGoto g states s y t
   pub none : (y : ℕ) → slice_get row y ≡ Some None → (m : ℕ) → Moved g kernel y m → ⊥
 
--- what follows after a symbol got its number, or nothing follows
-pub data IsStep (g : Grammar) (items : List ℕ) (x : ℕ) (old new : List (List ℕ)) : Option ℕ → Type 0 where
-  nothing : new ≡ old → ((m : ℕ) → MovedIn g items x m → ⊥) → IsStep g items x old new None
-  follows : (kernel : List ℕ) (t : ℕ) → IsStrictlyIncreasing kernel → 0 < length kernel → ((m : ℕ) → Contains kernel m ↔ MovedIn g items x m)
-      → IsNumbered old new kernel t → IsStep g items x old new (Some t)
+-- what follows with this kernel got its number, or nothing follows
+pub data IsStep (kernel : List ℕ) (old new : List (List ℕ)) : Option ℕ → Type 0 where
+  nothing : new ≡ old → kernel ≡ [] → IsStep kernel old new None
+  follows : (t : ℕ) → 0 < length kernel → IsNumbered old new kernel t → IsStep kernel old new (Some t)

@@ -1,11 +1,11 @@
 -- Item sets as lists of numbers.
-use Rattle.std.specs.Prelude.{◌≡◌, ◌<◌, ◌+◌, ◌⊎◌, ℕ, Bool, IsTrue, List, [], ◌∷◌, ◌++◌, length, slice_get, Some, map, Vec}
+use Rattle.std.specs.Prelude.{◌≡◌, ◌↔◌, ◌<◌, ◌+◌, ◌⊎◌, ℕ, List, [], ◌∷◌, ◌++◌, length, slice_get, Some, map, Vec}
 use Rattle.std.specs.List.{Contains}
 use Rattle.std.specs.List.Sorted.{IsStrictlyIncreasing}
 use Rattle.std.specs.declared.alloc.Global.{Global}
 use Rattle.lr_tables.specs.Grammar.{after, begun}
 use Rattle.lr_tables.specs.declared.grammar.Grammar.{Grammar}
-use Rattle.sc_items.specs.Reach.{marked, Edge}
+use Rattle.sc_items.specs.Reach.{Edge}
 
 -- the numbers below n of which the fact holds, in rising order
 pub record IsListOf (n : ℕ) (P : ℕ → Type 0) (xs : List ℕ) : Type 0 where
@@ -42,17 +42,20 @@ pub record MovedIn (g : Grammar) (items : List ℕ) (x m : ℕ) : Type 0 where
   pub over : after g from ≡ Some x
   pub to : m ≡ from + 1
 
--- the symbol stands after the dot of one of the items
-pub record IsNext (g : Grammar) (items : List ℕ) (x : ℕ) : Type 0 where
-  pub item : ℕ
-  pub within : Contains items item
-  pub over : after g item ≡ Some x
+-- the kernel is the items with the dot moved over the symbol
+pub record IsMoved (g : Grammar) (items : List ℕ) (x : ℕ) (kernel : List ℕ) : Type 0 where
+  pub rising : IsStrictlyIncreasing kernel
+  pub moved : (m : ℕ) → Contains kernel m ↔ MovedIn g items x m
 
--- the marks are those of the symbols after the dots of the items
-pub record AreNext (g : Grammar) (items : List ℕ) (marks : List Bool) : Type 0 where
-  pub long : length marks ≡ g.terminals + g.nonterminals
-  pub sound : (x : ℕ) → IsTrue (marked marks x) → IsNext g items x
-  pub complete : (x : ℕ) → IsNext g items x → IsTrue (marked marks x)
+-- the rows are, for each symbol, the items with the dot moved over it
+pub record AreMoved (g : Grammar) (items : List ℕ) (rows : List (Vec ℕ Global)) : Type 0 where
+  pub long : length rows ≡ g.terminals + g.nonterminals
+  pub each : (x : ℕ) (row : Vec ℕ Global) → slice_get rows x ≡ Some row → IsMoved g items x row.items
+
+-- so many rows have nothing in them
+pub record AreEmpty (n : ℕ) (rows : List (Vec ℕ Global)) : Type 0 where
+  pub long : length rows ≡ n
+  pub each : (x : ℕ) (row : Vec ℕ Global) → slice_get rows x ≡ Some row → row.items ≡ []
 
 -- the kernels as lists
 abbrev pub lists : List (Vec ℕ Global) → List (List ℕ)

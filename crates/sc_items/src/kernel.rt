@@ -1,9 +1,8 @@
 //! The kernels of states, and what follows from them.
-ghost use Rattle.std.specs.Prelude.{◌<◌, ◌↔◌, ℕ, length, IfOk, All, IsTrue};
-ghost use Rattle.std.specs.List.{Contains};
+ghost use Rattle.std.specs.Prelude.{◌<◌, ◌+◌, length, IfOk, OnOk, All, IsTrue};
 ghost use Rattle.std.specs.List.Sorted.{IsStrictlyIncreasing};
 ghost use Rattle.lr_tables.specs.Grammar.{IsGrammar, IsStart};
-ghost use Rattle.sc_items.specs.Kernel.{AreBeginnings, AreNext, Begins, IsListOf, IsNumbered, IsOpened, Opens, MovedIn, lists};
+ghost use Rattle.sc_items.specs.Kernel.{AreBeginnings, AreEmpty, AreMoved, IsListOf, IsNumbered, IsOpened, Opens, lists};
 ghost use Rattle.sc_items.specs.Reach.{marked, EdgesWithin};
 
 use crate::{after, begun, production_at};
@@ -51,27 +50,24 @@ fn beginnings(alloc: Global, grammar: &Grammar) -> Result<Vec<Vec<usize>>, OutOf
     requires { IsGrammar grammar.now }
     ensures { IfOk result (λ rows. AreBeginnings grammar.now rows.items) }
 {
-    let mut rows = Vec::new(alloc);
-    for symbol in 0..grammar.terminals + grammar.nonterminals {
-        rows.push(beginning(alloc, grammar, symbol)?)?;
+    let mut rows = empty_rows(alloc, grammar.terminals + grammar.nonterminals)?;
+    for item in 0..grammar.entries.len() {
+        if let Some(left) = begun(grammar, item) {
+            rows[left].push(item)?;
+        }
     }
     Ok(rows)
 }
 
-/// The items that begin a production of this symbol.
-fn beginning(alloc: Global, grammar: &Grammar, symbol: usize) -> Result<Vec<usize>, OutOfMemory>
-    requires { IsGrammar grammar.now }
-    ensures { IfOk result (λ items. IsListOf (length grammar.now.entries.now) (Begins grammar.now symbol) items.items) }
+/// So many rows with nothing in them.
+pub fn empty_rows(alloc: Global, count: usize) -> Result<Vec<Vec<usize>>, OutOfMemory>
+    ensures { IfOk result (λ rows. AreEmpty count rows.items) }
 {
-    let mut items = Vec::new(alloc);
-    for item in 0..grammar.entries.len() {
-        if let Some(left) = begun(grammar, item) {
-            if left == symbol {
-                items.push(item)?;
-            }
-        }
+    let mut rows = Vec::new(alloc);
+    for _row in 0..count {
+        rows.push(Vec::new(alloc))?;
     }
-    Ok(items)
+    Ok(rows)
 }
 
 /// The items that begin productions 1 and 2.
@@ -103,47 +99,25 @@ pub fn members(alloc: Global, marks: &[bool]) -> Result<Vec<usize>, OutOfMemory>
     Ok(items)
 }
 
-/// The symbols that stand after the dots of these items, as marks.
-pub fn next_symbols(
-    alloc: Global,
-    grammar: &Grammar,
-    items: &[usize],
-) -> Result<Vec<bool>, OutOfMemory>
-    requires grammar { IsGrammar grammar.now }
-    requires within { All (λ item. item < length grammar.now.entries.now) items.now }
-    ensures { IfOk result (λ marks. AreNext grammar.now items.now marks.items) }
-{
-    let mut marks = vec![in alloc; false; grammar.terminals + grammar.nonterminals]?;
-    for item in items {
-        if let Some(symbol) = after(grammar, *item) {
-            marks[symbol] = true;
-        }
-    }
-    Ok(marks)
-}
-
-/// The items whose dot stands before the symbol, with the dot moved over it.
+/// Moves the dots of these items on. Each item goes to the row of the symbol over which its dot is
+/// moved.
 pub fn moved(
-    alloc: Global,
     grammar: &Grammar,
     items: &[usize],
-    symbol: usize,
-) -> Result<Vec<usize>, OutOfMemory>
+    rows: &mut Vec<Vec<usize>>,
+) -> Result<(), OutOfMemory>
     requires grammar { IsGrammar grammar.now }
     requires within { All (λ item. item < length grammar.now.entries.now) items.now }
     requires rising { IsStrictlyIncreasing items.now }
-    ensures rising { IfOk result (λ kernel. IsStrictlyIncreasing kernel.items) }
-    ensures moved { IfOk result (λ kernel. (m : ℕ) → Contains kernel.items m ↔ MovedIn grammar.now items.now symbol m) }
+    requires rows { AreEmpty (grammar.now.terminals + grammar.now.nonterminals) rows.old.items }
+    ensures { OnOk result (AreMoved grammar.now items.now rows.new.items) }
 {
-    let mut kernel = Vec::new(alloc);
     for item in items {
         if let Some(next) = after(grammar, *item) {
-            if next == symbol {
-                kernel.push(*item + 1)?;
-            }
+            rows[next].push(*item + 1)?;
         }
     }
-    Ok(kernel)
+    Ok(())
 }
 
 /// The number of a kernel, which is a new one where the kernel is new.

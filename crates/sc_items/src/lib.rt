@@ -9,6 +9,6 @@ mod search;
 
 pub use automaton::{State, States};
 pub use item::{after, begun, production_at};
-pub use kernel::opened;
+pub use kernel::{empty_rows, opened};
 pub use reach::reachable;
 pub use search::states;
