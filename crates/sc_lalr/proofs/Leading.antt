@@ -1,18 +1,19 @@
 -- The rows of what each symbol leads.
-use Rattle.std.proofs.Common.{◌≡◌, ◌↔◌, ◌<◌, ◌≤◌, ◌+◌, ℕ, List, [], ◌∷◌, ◌++◌, length, get_or, slice_get, Some, Vec, inl, inr, refl, sym, ap, ◌∙◌, subst, arith}
+use Rattle.std.proofs.Common.{◌≡◌, ◌↔◌, ◌<◌, ◌≤◌, ◌+◌, ℕ, List, [], ◌∷◌, ◌++◌, length, get_or, set, slice_get, Some, Vec, inl, inr, refl, sym, ap, ◌∙◌, subst, arith}
 use Rattle.std.specs.Int.{bit_at}
 use Rattle.std.specs.List.{Contains}
 use Rattle.std.specs.declared.alloc.Global.{Global}
-use Rattle.std.proofs.lemmas.List.{length_push}
+use Rattle.std.proofs.lemmas.List.{length-set}
 use Rattle.std.proofs.lemmas.List.Elements.{Contains-push, Contains-append_left, Contains-push_cases, Contains-get_or}
 use Rattle.std.proofs.lemmas.Option.{same_Some, slice_get-get_or, get_or_from_slice_get}
 use Rattle.std.proofs.lemmas.Bool.{cases_lt}
 use Rattle.lr_tables.specs.Grammar.{IsGrammar, after, begun}
 use Rattle.lr_tables.specs.Tables.{First, itself, derived}
 use Rattle.lr_tables.specs.declared.grammar.Grammar.{Grammar}
+use Rattle.sc_items.specs.Kernel.{AreEmpty}
 use Rattle.sc_items.specs.Reach.{EdgesWithin}
 use Rattle.lr_tables.proofs.Members.{no_member, slice_some}
-use Rattle.sc_items.proofs.Opening.{each-push}
+use Rattle.sc_items.proofs.Opening.{at-place, begun_within, each-set}
 use Rattle.sc_items.proofs.Exploring.{after_small, begun_small}
 use Rattle.sc_lalr.specs.First.{Leads, IsLeading}
 use Rattle.sc_lalr.specs.Marks.{HasMark, HaveOwnMarks, IsSpread, Spreads, start, step}
@@ -53,33 +54,41 @@ IsLedBelow-push g y n x row h begins first = record { sound = sound; complete = 
       | inr b ↦ subst (Contains (row ++ x ∷ [])) (same_Some x z (sym begins ∙ subst (λ i. begun g i ≡ Some z) (same l.item below b) l.begins)) (Contains-push row x)
     ]
 
--- the rows of the first symbols
+-- the rows, by the first items
 pub record IsLeadingBelow (g : Grammar) (n : ℕ) (rows : List (Vec ℕ Global)) : Type 0 where
-  pub long : length rows ≡ n
-  pub each : (y : ℕ) (row : Vec ℕ Global) → slice_get rows y ≡ Some row → (x : ℕ) → Contains row.items x ↔ Leads g x y
+  pub long : length rows ≡ g.terminals + g.nonterminals
+  pub each : (y : ℕ) (row : Vec ℕ Global) → slice_get rows y ≡ Some row → IsLedBelow g y n row.items
 
-pub IsLeadingBelow-push : (g : Grammar) (n : ℕ) (rows : List (Vec ℕ Global)) (row : Vec ℕ Global) → IsLeadingBelow g n rows → ((x : ℕ) → Contains row.items x ↔ Leads g x n) → IsLeadingBelow g (n + 1) (rows ++ row ∷ [])
-IsLeadingBelow-push g n rows row h one = record {
-  long = length_push rows row ∙ ap (λ k. k + 1) h.long;
-  each = each-push (λ y (r : Vec ℕ Global). (x : ℕ) → Contains r.items x ↔ Leads g x y) rows row n h.long h.each one;
+pub IsLeadingBelow-none : (g : Grammar) (rows : List (Vec ℕ Global)) → AreEmpty (g.terminals + g.nonterminals) rows → IsLeadingBelow g 0 rows
+IsLeadingBelow-none g rows h = record { long = h.long; each = λ y row at. rw (h.each y row at) (IsLedBelow-none g y) }
+
+pub IsLeadingBelow-skip : (g : Grammar) (n : ℕ) (rows : List (Vec ℕ Global)) → IsLeadingBelow g n rows → ((x y : ℕ) → begun g n ≡ Some x → after g n ≡ Some y → ⊥) → IsLeadingBelow g (n + 1) rows
+IsLeadingBelow-skip g n rows h none = record { long = h.long; each = λ y row at. IsLedBelow-skip g y n row.items (h.each y row at) (λ x. none x y) }
+
+pub IsLeadingBelow-push : (g : Grammar) (n x y : ℕ) (rows : List (Vec ℕ Global)) (row grown : Vec ℕ Global) → IsLeadingBelow g n rows → begun g n ≡ Some x → after g n ≡ Some y → y < length rows → row ≡ get_or rows y row → grown.items ≡ row.items ++ x ∷ [] → IsLeadingBelow g (n + 1) (set rows y grown)
+IsLeadingBelow-push g n x y rows row grown h begins first within row_is grown_is = record {
+  long = length-set rows y grown ∙ h.long;
+  each = each-set (λ z (r : Vec ℕ Global). IsLedBelow g z n r.items) (λ z (r : Vec ℕ Global). IsLedBelow g z (n + 1) r.items) rows y grown within h.each
+      (λ z r other led. IsLedBelow-skip g z n r.items led (λ w b f. other (same_Some z y (sym f ∙ first))))
+      (rw grown_is (IsLedBelow-push g y n x row.items (at-place (λ z (r : Vec ℕ Global). IsLedBelow g z n r.items) rows y row within row_is h.each) begins first));
 }
 
-pub IsLeading-done : (g : Grammar) (n : ℕ) (rows : List (Vec ℕ Global)) → IsGrammar g → n ≡ g.terminals + g.nonterminals → IsLeadingBelow g n rows → IsLeading g rows
-IsLeading-done g n rows grammar e h = record {
-  long = h.long ∙ e;
-  sound = λ y x edge. (h.each y edge.row edge.row_at x).0 edge.in_row;
+pub IsLeading-done : (g : Grammar) (n : ℕ) (rows : List (Vec ℕ Global)) → IsGrammar g → length g.entries.now ≤ n → IsLeadingBelow g n rows → IsLeading g rows
+IsLeading-done g n rows grammar all h = record {
+  long = h.long;
+  sound = λ y x edge. (h.each y edge.row edge.row_at).sound x edge.in_row;
   complete = λ y x l. (
-      let row = slice_some rows y (omega (arith, h.long, e, after_small g l.item y grammar l.first)) in
-      record { row = row.0; row_at = row.1; in_row = (h.each y row.0 row.1 x).1 l });
+      let row = slice_some rows y (omega (arith, h.long, after_small g l.item y grammar l.first)) in
+      record { row = row.0; row_at = row.1; in_row = (h.each y row.0 row.1).complete x l (omega (arith, all, begun_within g l.item x l.begins)) });
 }
 
-pub EdgesWithin-done : (g : Grammar) (n : ℕ) (rows : List (Vec ℕ Global)) → IsGrammar g → n ≡ g.terminals + g.nonterminals → IsLeadingBelow g n rows → EdgesWithin rows
-EdgesWithin-done g n rows grammar e h = record {
+pub EdgesWithin-done : (g : Grammar) (n : ℕ) (rows : List (Vec ℕ Global)) → IsGrammar g → IsLeadingBelow g n rows → EdgesWithin rows
+EdgesWithin-done g n rows grammar h = record {
   within = λ y d y_in k z k_in.
       let row = get_or rows y d in
       let at : slice_get rows y ≡ Some row = slice_get-get_or rows y d y_in in
-      let l = (h.each y row at (get_or row.items k z)).0 (Contains-get_or row.items k z k_in) in
-      omega (arith, begun_small g l.item (get_or row.items k z) grammar l.begins, e, h.long);
+      let l = (h.each y row at).sound (get_or row.items k z) (Contains-get_or row.items k z k_in) in
+      omega (arith, begun_small g l.item (get_or row.items k z) grammar l.begins, h.long);
 }
 
 -- what a symbol begins is what has its mark, once all marks are passed on

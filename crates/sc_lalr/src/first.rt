@@ -1,18 +1,17 @@
 //! Which texts a terminal can begin.
 ghost use Rattle.std.specs.Prelude.{◌≡◌, ◌<◌, ◌+◌, ◌↔◌, ℕ, length, IfOk};
 ghost use Rattle.std.specs.Int.{bit_at};
-ghost use Rattle.std.specs.List.{Contains};
 ghost use Rattle.lr_tables.specs.Grammar.{IsGrammar};
 ghost use Rattle.lr_tables.specs.Tables.{First};
 ghost use Rattle.sc_items.specs.Reach.{EdgesWithin};
 ghost use Rattle.lr_tables.specs.declared.grammar.Grammar.{Grammar};
-ghost use Rattle.sc_lalr.specs.First.{Leads, IsLeading};
+ghost use Rattle.sc_lalr.specs.First.{IsLeading};
 ghost use Rattle.sc_lalr.specs.Marks.{HasMark, HaveOwnMarks};
 
 use crate::spread::spread;
 use lr_tables::Grammar;
 use sc_base::OutOfMemory;
-use sc_items::{after, begun};
+use sc_items::{after, begun, empty_rows};
 use std::alloc::Global;
 
 /// For each symbol the symbols, among the 64 from this one on, that begin a text which can be
@@ -61,27 +60,13 @@ pub fn leading(alloc: Global, grammar: &Grammar) -> Result<Vec<Vec<usize>>, OutO
     ensures leading { IfOk result (λ rows. IsLeading grammar.now rows.items) }
     ensures edges { IfOk result (λ rows. EdgesWithin rows.items) }
 {
-    let mut rows = Vec::new(alloc);
-    for symbol in 0..grammar.terminals + grammar.nonterminals {
-        rows.push(led_by(alloc, grammar, symbol)?)?;
-    }
-    Ok(rows)
-}
-
-/// The symbols with a production that begins with this one.
-fn led_by(alloc: Global, grammar: &Grammar, symbol: usize) -> Result<Vec<usize>, OutOfMemory>
-    requires { IsGrammar grammar.now }
-    ensures { IfOk result (λ row. (x : ℕ) → Contains row.items x ↔ Leads grammar.now x symbol) }
-{
-    let mut row = Vec::new(alloc);
+    let mut rows = empty_rows(alloc, grammar.terminals + grammar.nonterminals)?;
     for item in 0..grammar.entries.len() {
         if let Some(left) = begun(grammar, item) {
             if let Some(first) = after(grammar, item) {
-                if first == symbol {
-                    row.push(left)?;
-                }
+                rows[first].push(left)?;
             }
         }
     }
-    Ok(row)
+    Ok(rows)
 }
