@@ -56,7 +56,7 @@ fn explored(
     let items = reachable(alloc, opened, &kernels[state])?;
     let members = members(alloc, &items)?;
     moved(grammar, &members, next)?;
-    let mut gotos = Vec::new(alloc);
+    let mut gotos = Vec::with_capacity(alloc, grammar.terminals + grammar.nonterminals)?;
     for symbol in 0..grammar.terminals + grammar.nonterminals {
         let kernel = mem::replace(&mut next[symbol], Vec::new(alloc));
         gotos.push(goto(kernels, kernel)?)?;

@@ -70,7 +70,7 @@ fn action_row(
 {
     let ends = ends(alloc, grammar, states, state)?;
     let produced = produced(alloc, grammar, &ends)?;
-    let mut row = Vec::new(alloc);
+    let mut row = Vec::with_capacity(alloc, grammar.terminals)?;
     for terminal in 0..grammar.terminals {
         let found = productions(
             alloc,
@@ -99,7 +99,7 @@ fn goto_row(
     requires states { AreStates grammar.now states.now }
     ensures { IfOk result (λ row. AreGotos grammar.now (kernels_of states.now) state grammar.now.nonterminals row.items) }
 {
-    let mut row = Vec::new(alloc);
+    let mut row = Vec::with_capacity(alloc, grammar.nonterminals)?;
     for nonterminal in 0..grammar.nonterminals {
         row.push(states.goto(state, grammar.terminals + nonterminal))?;
     }

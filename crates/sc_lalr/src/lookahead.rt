@@ -67,7 +67,7 @@ fn behind(
     requires within { All (λ p. p % length grammar.now.entries.now < length grammar.now.entries.now) sources.now }
     ensures { IfOk result (λ symbols. symbols.items ≡ map (behind_of grammar.now) sources.now) }
 {
-    let mut symbols = Vec::new(alloc);
+    let mut symbols = Vec::with_capacity(alloc, sources.len())?;
     for source in sources {
         symbols.push(after(grammar, *source % grammar.entries.len() + 1))?;
     }

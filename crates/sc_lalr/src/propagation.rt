@@ -28,7 +28,7 @@ pub fn propagation(
     ensures rows { IfOk result (λ rows. IsPropagation grammar.now (kernels_of states.now) nodes.now rows.items) }
     ensures edges { IfOk result (λ rows. EdgesWithin rows.items) }
 {
-    let mut rows = Vec::new(alloc);
+    let mut rows = Vec::with_capacity(alloc, nodes.places.len())?;
     for node in 0..nodes.places.len() {
         rows.push(passed(alloc, grammar, states, nodes, opened, node)?)?;
     }

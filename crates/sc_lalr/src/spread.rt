@@ -27,7 +27,7 @@ pub fn spread(alloc: Global, edges: &[Vec<usize>], words: &mut Vec<u64>) -> Resu
 fn all(alloc: Global, count: usize) -> Result<Vec<usize>, OutOfMemory>
     ensures { IfOk result (λ numbers. (v : ℕ) → Contains numbers.items v ↔ (v < count)) }
 {
-    let mut numbers = Vec::new(alloc);
+    let mut numbers = Vec::with_capacity(alloc, count)?;
     for number in 0..count {
         numbers.push(number)?;
     }

@@ -24,7 +24,7 @@ reachable-requires-clause-starts c = λ k d h.
 pub loop-symbol-init : goal.loop-symbol-init
 loop-symbol-init c =
     let at = kernel_at c.args.kernels.now.keys c.args.state c.index.result.now c.index.ensures in
-    rw c.new-gotos.ensures.items (Explored-begin c.args.grammar.now (lists c.args.kernels.now.keys) c.args.state c.index.result.now.items c.requires.found at, TakenBelow-none c.args.grammar.now c.in_ok-members.members.items c.moved.new.rows.items (subst (λ zs. AreMoved c.args.grammar.now zs c.moved.new.rows.items) c.deref-3.ensures.value c.in_ok-moved.ensures))
+    rw c.in_ok-gotos.ensures.items (Explored-begin c.args.grammar.now (lists c.args.kernels.now.keys) c.args.state c.index.result.now.items c.requires.found at, TakenBelow-none c.args.grammar.now c.in_ok-members.members.items c.moved.new.rows.items (subst (λ zs. AreMoved c.args.grammar.now zs c.moved.new.rows.items) c.deref-3.ensures.value c.in_ok-moved.ensures))
 
 pub moved-requires-clause-within : goal.moved-requires-clause-within
 moved-requires-clause-within c = λ k d h.

@@ -33,7 +33,7 @@ reduce_is g states nodes numbers_view s t rows row ends ends_view found words_vi
     (λ w. subst (λ x. CanReduce g states s x p) same (can.0 (here.0 w)), λ r. here.1 (can.1 (subst (λ x. CanReduce g states s x p) (sym same) r)))
 
 pub loop-terminal-init : goal.loop-terminal-init
-loop-terminal-init c = rw c.new-row.ensures.items (RowSoFar-begin c.args.grammar.now (kernels_of c.args.states.now) c.args.state c.args.conflicts.now.items c.requires.conflicts)
+loop-terminal-init c = rw c.in_ok-row.ensures.items (RowSoFar-begin c.args.grammar.now (kernels_of c.args.states.now) c.args.state c.args.conflicts.now.items c.requires.conflicts)
 
 pub produced-requires : goal.produced-requires
 produced-requires c = λ k d h. c.in_ok-ends.ensures.below (get_or c.deref.result.now k d) (end_below c.args.grammar.now (kernels_of c.args.states.now) c.args.state c.in_ok-ends.ends.items c.deref.result.now k d c.deref.ensures.value h c.in_ok-ends.ensures)

@@ -15,7 +15,7 @@ gotos_more g states s n row to h one = record {
 }
 
 pub loop-nonterminal-init : goal.loop-nonterminal-init
-loop-nonterminal-init c = rw c.new-row.ensures.items (record { long = refl; each = λ x to at. absurd (none-some to at) })
+loop-nonterminal-init c = rw c.in_ok-row.ensures.items (record { long = refl; each = λ x to at. absurd (none-some to at) })
 
 pub loop-nonterminal-preserved : goal.loop-nonterminal-preserved
 loop-nonterminal-preserved c = rw c.in_ok-push.ensures.items (gotos_more c.args.grammar.now (kernels_of c.args.states.now) c.args.state c.loop-nonterminal.nonterminal c.loop-nonterminal.row.items c.goto.result c.loop-nonterminal.invariant (c.goto.ensures.exact c.args.grammar.now c.requires.grammar c.requires.states))
