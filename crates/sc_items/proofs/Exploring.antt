@@ -180,3 +180,8 @@ members_of g kernel items marks view e h c = members_are g kernel items marks (s
 
 pub members_within : (n : ℕ) (items : List ℕ) (marks view : List Bool) → view ≡ marks → length marks ≡ n → IsListOf (length view) (λ i. IsTrue (marked view i)) items → (i : ℕ) → Contains items i → i < n
 members_within n items marks view e f h i w = omega (arith, h.below i w, ap length e, f)
+
+pub members_list : (g : Grammar) (kernel items : List ℕ) (marks view : List Bool) → view ≡ marks → length marks ≡ length g.entries.now → IsListOf (length view) (λ i. IsTrue (marked view i)) items → ((i : ℕ) → IsTrue (marked marks i) ↔ Closure g kernel i) → IsListOf (length g.entries.now) (Closure g kernel) items
+members_list g kernel items marks view e f h c =
+    let are = members_of g kernel items marks view e h c in
+    record { rising = h.rising; below = members_within (length g.entries.now) items marks view e f h; sound = are.sound; complete = λ i i_in w. are.complete i w }

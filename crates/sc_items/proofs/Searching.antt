@@ -27,6 +27,7 @@ state_keeps g old new s state k h = record {
   kernel_at = Extends-keeps s h.kernel h.kernel_at k;
   long = h.long;
   items = h.items;
+  members = h.members;
   gotos = record { long = h.gotos.long; some = λ y t at. goto_keeps g old new s y t k (h.gotos.some y t at); none = h.gotos.none };
 }
 

@@ -6,7 +6,7 @@ use Rattle.lr_tables.specs.declared.grammar.Grammar.{Grammar}
 use Rattle.sc_items.specs.declared.automaton.State.{State}
 use Rattle.sc_items.specs.declared.automaton.States.{States}
 use Rattle.sc_items.specs.Reach.{marked}
-use Rattle.sc_items.specs.Kernel.{lists}
+use Rattle.sc_items.specs.Kernel.{IsListOf, lists}
 use Rattle.sc_items.specs.Found.{IsGotoRow}
 
 -- the items and the gotos are those of state s
@@ -15,6 +15,7 @@ pub record IsState (g : Grammar) (states : List (List ℕ)) (s : ℕ) (state : S
   pub kernel_at : slice_get states s ≡ Some kernel
   pub long : length state.items.items ≡ length g.entries.now
   pub items : (i : ℕ) → IsTrue (marked state.items.items i) ↔ Closure g kernel i
+  pub members : IsListOf (length g.entries.now) (Closure g kernel) state.members.items
   pub gotos : IsGotoRow g states s kernel state.gotos.items (g.terminals + g.nonterminals)
 
 -- the kernels of the states

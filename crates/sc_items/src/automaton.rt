@@ -6,6 +6,8 @@ use indexmap::IndexSet;
 pub struct State {
     /// Whether it has an item.
     pub items: Vec<bool>,
+    /// The items that it has, in rising order.
+    pub members: Vec<usize>,
     /// Where a symbol leads from it.
     pub gotos: Vec<Option<usize>>,
 }

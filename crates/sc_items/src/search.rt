@@ -61,7 +61,11 @@ fn explored(
         let kernel = mem::replace(&mut next[symbol], Vec::new(alloc));
         gotos.push(goto(kernels, kernel)?)?;
     }
-    Ok(State { items, gotos })
+    Ok(State {
+        items,
+        members,
+        gotos,
+    })
 }
 
 /// The state with this kernel, where it has an item.

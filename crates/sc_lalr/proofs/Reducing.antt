@@ -13,7 +13,9 @@ use Rattle.lr_tables.specs.declared.grammar.Entry.TheVariants.{Left, Right}
 use Rattle.lr_tables.proofs.Members.{slice_some}
 use Rattle.sc_items.proofs.Listing.{IsCollected, IsCollected-kept, IsCollected-left, IsCollected-none, rising-collected, rising-none}
 use Rattle.sc_lalr.specs.Marks.{HasMark}
-use Rattle.sc_lalr.specs.Tables.{AreEnds, IsAtEnd}
+use Rattle.sc_items.specs.Kernel.{IsListOf}
+use Rattle.sc_items.specs.States.{HasItem}
+use Rattle.sc_lalr.specs.Tables.{AreEnds, EndsIn, IsAtEnd}
 
 -- ---- a later item has a later production
 count_take_le : {A : Type 0} (p : A → Bool) (xs : List A) (m n : ℕ) → m ≤ n → count_by p (take m xs) ≤ count_by p (take n xs)
@@ -77,3 +79,31 @@ pub MarkedSoFar-next : (g : Grammar) (words : List ℕ) (b : ℕ) (numbers : Lis
 MarkedSoFar-next g words b numbers base k items produced found ends k_in h has_mark =
     let here : slice_index produced k ≡ production_at g (get_or items k 0) = ap (λ zs. slice_index zs k) ends.produced_are ∙ get_or-map (production_at g) items k 0 0 k_in in
     rw here (MarkedSoFar-kept g words b numbers base k items found ends.rising ends.within ends.at_end k_in h has_mark)
+
+-- ---- the ends among the first items
+abbrev pub EndsAt : Grammar → ℕ → ℕ → Type 0
+EndsAt g i j = (after g i ≡ None) × (i ≡ j)
+
+pub record EndsSoFar (g : Grammar) (items ends : List ℕ) : Type 0 where
+  pub rising : IsStrictlyIncreasing ends
+  pub collected : IsCollected (EndsAt g) items ends
+
+pub EndsSoFar-none : (g : Grammar) → EndsSoFar g [] []
+EndsSoFar-none g = record { rising = rising-none; collected = IsCollected-none (EndsAt g) }
+
+pub EndsSoFar-left : (g : Grammar) (items ends : List ℕ) (k : ℕ) → k < length items → EndsSoFar g (take k items) ends → (after g (get_or items k 0) ≡ None → ⊥) → EndsSoFar g (take (k + 1) items) ends
+EndsSoFar-left g items ends k k_in h not = record { rising = h.rising; collected = IsCollected-left (EndsAt g) items ends k k_in h.collected (λ j r. not r.0) }
+
+pub EndsSoFar-kept : (g : Grammar) (items ends : List ℕ) (k : ℕ) → IsStrictlyIncreasing items → k < length items → EndsSoFar g (take k items) ends → after g (get_or items k 0) ≡ None → EndsSoFar g (take (k + 1) items) (ends ++ get_or items k 0 ∷ [])
+EndsSoFar-kept g items ends k inc k_in h end = record {
+  rising = rising-collected (EndsAt g) items ends k (get_or items k 0) inc k_in h.collected h.rising (λ i j w lower r. omega (arith, r.1, lower));
+  collected = IsCollected-kept (EndsAt g) items ends k (get_or items k 0) k_in h.collected (end, refl) (λ j r. r.1);
+}
+
+pub EndsSoFar-done : (g : Grammar) (states : List (List ℕ)) (s : ℕ) (items ends : List ℕ) → IsListOf (length g.entries.now) (HasItem g states s) items → EndsSoFar g items ends → IsListOf (length g.entries.now) (EndsIn g states s) ends
+EndsSoFar-done g states s items ends are h = record {
+  rising = h.rising;
+  below = λ i w. let o = h.collected.sound i w in subst (λ z. z < length g.entries.now) o.2.1 (are.below o.0 o.1);
+  sound = λ i w. let o = h.collected.sound i w in subst (EndsIn g states s) o.2.1 (record { has = are.sound o.0 o.1; at_end = o.2.0 });
+  complete = λ i i_in e. h.collected.complete i i (are.complete i i_in e.has) (e.at_end, refl);
+}

@@ -29,11 +29,10 @@ pub fn nodes_of(alloc: Global, grammar: &Grammar, states: &States) -> Result<Nod
     let mut places = Vec::new(alloc);
     let mut numbers = vec![in alloc; 0; states.len() * n]?;
     for state in 0..states.len() {
-        for (item, is_in) in states.rows[state].items.iter().enumerate() {
-            if *is_in {
-                numbers[state * n + item] = places.len();
-                places.push(state * n + item)?;
-            }
+        for item in &states.rows[state].members {
+            let place = state * n + *item;
+            numbers[place] = places.len();
+            places.push(place)?;
         }
     }
     Ok(Nodes { places, numbers })

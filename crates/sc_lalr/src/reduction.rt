@@ -26,11 +26,9 @@ pub fn ends(
     ensures { IfOk result (λ items. IsListOf (length grammar.now.entries.now) (EndsIn grammar.now (kernels_of states.now) state) items.items) }
 {
     let mut items = Vec::new(alloc);
-    for (item, is_in) in states.rows[state].items.iter().enumerate() {
-        if *is_in {
-            if after(grammar, item).is_none() {
-                items.push(item)?;
-            }
+    for item in &states.rows[state].members {
+        if after(grammar, *item).is_none() {
+            items.push(*item)?;
         }
     }
     Ok(items)

@@ -8,7 +8,7 @@ use Rattle.sc_base.proofs.Growth.{Extends-keeps}
 use Rattle.sc_items.specs.Kernel.{AreMoved, lists}
 use Rattle.sc_items.specs.Found.{IsGotoRow}
 use Rattle.sc_items.proofs.Finding.{Found-next}
-use Rattle.sc_items.proofs.Exploring.{Explored-begin, Explored-step, closure_of, members_of, members_within, after_small}
+use Rattle.sc_items.proofs.Exploring.{Explored-begin, Explored-step, closure_of, members_list, members_of, members_within, after_small}
 use Rattle.sc_items.proofs.Opening.{TakenBelow-none, TakenBelow-more, TakenBelow-done, taken_at}
 use Rattle.sc_items.proofs.search.explored.Goals as goal
 
@@ -64,11 +64,14 @@ returns-clause-state c =
     let h = c.loop-symbol.invariant.0 in
     let same = same_Some h.kernel kernel (sym h.kernel_at ∙ at) in
     let n : c.loop-symbol.symbol ≡ g.terminals + g.nonterminals = omega arith in
+    let closure = closure_of g c.args.opened.now kernel c.deref.result.now c.in_ok-items.items.items c.requires.opened c.deref.ensures.value c.in_ok-items.ensures.exact in
+    let long : length c.in_ok-items.items.items ≡ length g.entries.now = sym c.in_ok-items.items.ok.0 ∙ c.in_ok-items.ensures.len ∙ c.requires.opened.long in
     record {
       kernel = kernel;
       kernel_at = Extends-keeps c.args.state kernel at h.keeps;
-      long = sym c.in_ok-items.items.ok.0 ∙ c.in_ok-items.ensures.len ∙ c.requires.opened.long;
-      items = closure_of g c.args.opened.now kernel c.deref.result.now c.in_ok-items.items.items c.requires.opened c.deref.ensures.value c.in_ok-items.ensures.exact;
+      long = long;
+      items = closure;
+      members = members_list g kernel c.in_ok-members.members.items c.in_ok-items.items.items c.deref-2.result.now c.deref-2.ensures.value long c.in_ok-members.ensures closure;
       gotos = subst (λ k. IsGotoRow g (lists c.loop-symbol.kernels.keys) c.args.state kernel c.loop-symbol.gotos.items k) n (subst (λ zs. IsGotoRow g (lists c.loop-symbol.kernels.keys) c.args.state zs c.loop-symbol.gotos.items c.loop-symbol.symbol) same h.row_is);
     }
 
