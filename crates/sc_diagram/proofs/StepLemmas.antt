@@ -81,7 +81,7 @@ module _ {d e : Diagram} {what : Application} {v : ℕ} (is : IsApplication d wh
       Applies-IsChoice all.valid what (IsApplication-Grows all is) r v results (IsBefore-Grows all what.operation what.left is.left open_.before) (first ∙ sym (first_of-Grows all what is))
       (omega (arith, within, ap length more.arities)) (omega (arith, full, ap (λ ns. slice_index ns v) more.arities)) own (AppliesEach-Grows more now each) choice
 
--- the operation on what remains with the first and with the second option of two, one after the other
+-- the operation on what remains with the first and with the second of two options, one by one
 module _ {d : Diagram} {what : Application} {v : ℕ} (valid : IsDiagram d) (is : IsApplication d what) (open_ : IsUndecided d what) (first : v ≡ first_of d what) (two : slice_index d.arities v ≡ 2) where
   pub first_call : (w : Application) → w ≡ application_at d what v 0 → record { deeper : length d.arities - first_of d w < length d.arities - first_of d what; application : IsApplication d w }
   first_call w same = call_is is open_ first (Grows-refl d valid) w 0 (omega (arith, two)) same
