@@ -1,5 +1,5 @@
 -- Marks that are passed on.
-use Rattle.std.proofs.Common.{◌≡◌, ◌↔◌, ◌<◌, ◌≤◌, ◌+◌, ◌^◌, ◌⊎◌, max, ℕ, List, [], ◌∷◌, ◌++◌, length, replicate, set, slice_get, slice_index, Some, Vec, inl, inr, refl, sym, ap, ◌∙◌, subst, arith}
+use Rattle.std.proofs.Common.{◌≡◌, ◌↔◌, ◌<◌, ◌≤◌, ◌+◌, ◌-◌, ◌^◌, ◌⊎◌, max, ℕ, List, [], ◌∷◌, ◌++◌, length, replicate, set, slice_get, slice_index, Some, Vec, inl, inr, refl, sym, ap, ◌∙◌, subst, arith}
 use Rattle.std.specs.Int.{bit_at}
 use Rattle.std.specs.Int.RustNames.{bit_or}
 use Rattle.std.specs.List.{Contains, sum_by}
@@ -15,11 +15,14 @@ use Rattle.lr_tables.proofs.Members.{no_member}
 use Rattle.sc_items.specs.Reach.{Edge}
 use Rattle.sc_lalr.specs.Marks.{HasMark, Spreads, start, step, IsSpread, IsGiven, IsPassed, room}
 
--- all numbers below one
-pub all-more : (numbers : List ℕ) (n : ℕ) → ((v : ℕ) → Contains numbers v ↔ (v < n)) → (v : ℕ) → Contains (numbers ++ n ∷ []) v ↔ (v < n + 1)
-all-more numbers n h v = (
-  λ w. elim (Contains-push_cases numbers n v w) [ inl a ↦ omega (arith, (h v).0 a) | inr e ↦ omega arith ],
-  λ k. elim (cases_lt v n) [ inl a ↦ Contains-append_left numbers (n ∷ []) v ((h v).1 a) | inr b ↦ (let e : n ≡ v = omega arith in subst (Contains (numbers ++ n ∷ [])) e (Contains-push numbers n)) ],
+-- the numbers below one, from the highest
+pub all-more : (numbers : List ℕ) (count n : ℕ) → n < count → ((v : ℕ) → Contains numbers v ↔ (v < count) × (count ≤ v + n)) → (v : ℕ) → Contains (numbers ++ (count - 1 - n) ∷ []) v ↔ (v < count) × (count ≤ v + (n + 1))
+all-more numbers count n n_in h v = (
+  λ w. elim (Contains-push_cases numbers (count - 1 - n) v w) [ inl a ↦ (((h v).0 a).0, omega (arith, ((h v).0 a).1)) | inr e ↦ (omega (arith, e, n_in), omega (arith, e, n_in)) ],
+  λ k. elim (cases_lt (v + n) count) [
+    | inl a ↦ (let e : count - 1 - n ≡ v = omega (arith, a, k.1) in subst (Contains (numbers ++ (count - 1 - n) ∷ [])) e (Contains-push numbers (count - 1 - n)))
+    | inr b ↦ Contains-append_left numbers ((count - 1 - n) ∷ []) v ((h v).1 (k.0, b))
+  ],
 )
 
 -- ---- one word

@@ -23,13 +23,13 @@ pub fn spread(alloc: Global, edges: &[Vec<usize>], words: &mut Vec<u64>) -> Resu
     Ok(())
 }
 
-/// The numbers below this one.
+/// The numbers below this one, from the highest.
 fn all(alloc: Global, count: usize) -> Result<Vec<usize>, OutOfMemory>
     ensures { IfOk result (λ numbers. (v : ℕ) → Contains numbers.items v ↔ (v < count)) }
 {
     let mut numbers = Vec::with_capacity(alloc, count)?;
     for number in 0..count {
-        numbers.push(number)?;
+        numbers.push(count - 1 - number)?;
     }
     Ok(numbers)
 }
