@@ -27,8 +27,8 @@ use std::marker::Model;
 /// Each node stands for one set of configurations, for good: the store only grows, also where a
 /// call finds no memory. Nodes of one store that stand for the same set are one. An operation adds
 /// no node but those of its result's diagram, `simplify` aside, and goes as deep as there are
-/// variables. What operations made is looked up while it is kept: there is a slot for every eight
-/// nodes, which the next result of that slot takes (Brace, Rudell and Bryant 1990).
+/// variables. What operations made is looked up while it is kept: there is a slot for every four
+/// nodes, at most 32,768, which the next result of that slot takes (Brace, Rudell and Bryant 1990).
 #[derive(Drop)]
 pub struct Store {
     table: Table,
